@@ -1,16 +1,18 @@
 -- Cells one after another, cell by cell, and in rows.
-use Rattle.std.proofs.Common.{◌≡◌, ◌∙◌, ◌+◌, ◌-◌, ◌*◌, ◌<◌, ◌≤◌, ◌==◌, ◌/◌, ◌%◌, ◌↔◌, inl, inr, ℕ, zero, suc, List, [], ◌∷◌, ◌++◌, Option, None, Some, IsTrue, ap, append-nil, arith, drop, eqb-true, length, length-append, length-take-le, refl, subst, sum, sym, take, zero-add}
+use Rattle.std.proofs.Common.{◌≡◌, ◌∙◌, ◌+◌, ◌-◌, ◌*◌, ◌<◌, ◌≤◌, ◌==◌, ◌/◌, ◌%◌, ◌↔◌, inl, inr, ℕ, zero, suc, List, [], ◌∷◌, ◌++◌, Option, None, Some, Bool, true, false, IsTrue, ap, append-nil, append_assoc, arith, drop, eqb-true, length, length-append, length-take-le, refl, subst, sum, sym, take, zero-add}
 use Rattle.std.proofs.Math.Nat.{mod-add-div', mul-mod_left, mul-zero}
 use Rattle.std.proofs.lemmas.Grind.{flat_map-append}
-use Rattle.std.proofs.lemmas.Bool.{cases_lt}
-use Rattle.std.proofs.lemmas.List.{length-drop, nil_from_length, take_all}
+use Rattle.std.proofs.lemmas.Bool.{cases_lt, eqb-false}
+use Rattle.std.proofs.lemmas.List.{length-drop, length_push, nil_from_length, take_all}
 use Rattle.std.proofs.lemmas.List.Sums.{sum_by-take-le}
 use Rattle.std.proofs.lemmas.Nat.{mod-mul-add, mul-le}
 use Rattle.std.specs.List.{AllByRecursion}
-use Rattle.std.specs.Prelude.{flat_map}
+use Rattle.std.specs.Prelude.{flat_map, if◌then◌else◌}
 use Rattle.basinmug_bounded.specs.Cells.{AreRecords, AreWhole, AreWholeRows, Given, HasFlawed, IsCellFault, cells_in, cells_read, fault_at, lengths_read}
 use Rattle.basinmug_bounded.specs.declared.refusal.CellFault.{CellFault}
 use Rattle.basinmug_bounded.specs.declared.refusal.Refusal.TheVariants.{Cell}
+use Rattle.basinmug_cells.specs.Held.{Held, row_ended, with_cell}
+use Rattle.basinmug_input.proofs.Rows.{all-push}
 use Rattle.basinmug_input.specs.declared.cells.Flaw.{Flaw}
 use Rattle.basinmug_input.specs.declared.cells.Flaw.TheVariants.{Escape, NotText}
 use Rattle.program_options.specs.declared.basinmug.Escapes.{Escapes}
@@ -80,6 +82,44 @@ whole-rows per_record cells rows part joined all short whole =
       joined = sym (append-nil (flat_map (λ row. row) rows)) ∙ ap (λ rest. flat_map (λ row. row) rows ++ rest) (sym none) ∙ joined;
       whole = all;
     }
+
+-- cells in whole rows, and in one that is not full
+pub record AreInRows (per_record : ℕ) (cells : List (List ℕ)) (rows : Held) : Type 0 where
+  pub joined : flat_map (λ row. row) rows.rows ++ rows.begun ≡ cells
+  pub whole : AllByRecursion (λ row. (length row ≡ per_record) × (0 < per_record)) rows.rows
+  pub part : 0 < per_record → length rows.begun < per_record
+
+-- with one more
+module _ (per_record : ℕ) (cells : List (List ℕ)) (rows : Held) (cell : List ℕ) (are : AreInRows per_record cells rows) where
+  longer : length (rows.begun ++ cell ∷ []) ≡ length rows.begun + 1
+  longer = length_push rows.begun cell
+
+  more-joined : flat_map (λ row. row) rows.rows ++ (rows.begun ++ cell ∷ []) ≡ cells ++ cell ∷ []
+  more-joined = sym (append_assoc (flat_map (λ row. row) rows.rows) rows.begun (cell ∷ [])) ∙ ap (λ (of : List (List ℕ)). of ++ cell ∷ []) are.joined
+
+  next-full : (b : Bool) → (length (rows.begun ++ cell ∷ []) == per_record) ≡ b → AreInRows per_record (cells ++ cell ∷ []) (if b then row_ended (with_cell rows cell) else with_cell rows cell)
+  next-full true full =
+      let same = eqb-true (length (rows.begun ++ cell ∷ [])) per_record full in
+      let size = longer in
+      record {
+        joined = append-nil (flat_map (λ row. row) (rows.rows ++ (rows.begun ++ cell ∷ []) ∷ [])) ∙ row-after rows.rows (rows.begun ++ cell ∷ []) ∙ more-joined;
+        whole = all-push (λ row. (length row ≡ per_record) × (0 < per_record)) rows.rows (rows.begun ++ cell ∷ []) are.whole (same, omega (arith, same, size));
+        part = λ some. some;
+      }
+  next-full false few = record {
+    joined = more-joined;
+    whole = are.whole;
+    part = λ some.
+        let other = eqb-false (length (rows.begun ++ cell ∷ [])) per_record few in
+        let short = are.part some in
+        let size = longer in omega (arith, other, short, size);
+  }
+
+  pub in_rows-more : (more full : Held) → more ≡ with_cell rows cell → full ≡ (if length more.begun == per_record then row_ended more else more) → AreInRows per_record (cells ++ cell ∷ []) full
+  in_rows-more more full is ends =
+      subst (AreInRows per_record (cells ++ cell ∷ []))
+      (sym (ends ∙ ap (λ (more : Held). if length more.begun == per_record then row_ended more else more) is))
+      (next-full (length (rows.begun ++ cell ∷ []) == per_record) refl)
 
 -- ---- all cells
 

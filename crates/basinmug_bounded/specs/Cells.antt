@@ -59,6 +59,11 @@ pub record AreWholeRows (per_record : ℕ) (cells : List (List ℕ)) (rows : Lis
 
 -- ---- how they are shown
 
+-- each of these cells can be shown, and the rows have so many each, as a table shows them
+pub record AreShownCells (escapes : Escapes) (per_record : ℕ) (cells : List (List ℕ)) (rows : List (List (List ℕ))) : Type 0 where
+  pub readable : AllByRecursion (IsReadableField escapes) cells
+  pub rows_are : AreWholeRows per_record (map (cleaned escapes) cells) rows
+
 -- each cell that is read can be shown, and these are the records as a table shows them
 pub record IsReadCells (escapes : Escapes) (records : Option ℕ) (given : Given) (rows : List (List (List ℕ))) : Type 0 where
   pub are : AreRecords given

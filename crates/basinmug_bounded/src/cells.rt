@@ -1,13 +1,11 @@
 //! Records as cells, one after another.
-ghost use Rattle.std.specs.Prelude.{◌≡◌, ◌≤◌, ◌<◌, ◌↔◌, ◌++◌, IfErr, IfOk, IsTrue, MatchResult, flat_map, length, map, sum};
-ghost use Rattle.basinmug_bounded.specs.Cells.{AreRecords, AreWhole, AreWholeRows, HasFlawed, IsCellFault, IsReadCells, cells_in, cells_read, fault_at, given_by, lengths_read};
-ghost use Rattle.basinmug_input.specs.Fields.Fields.{field_rows, field_text};
-ghost use Rattle.basinmug_input.specs.Rows.{IsRowOf};
-ghost use Rattle.std.specs.List.{AllByRecursion};
+ghost use Rattle.std.specs.Prelude.{◌≡◌, ◌==◌, ◌≤◌, ◌<◌, ◌↔◌, IfErr, IfOk, IsTrue, MatchResult, OnOk, if◌then◌else◌, length, sum};
+ghost use Rattle.basinmug_bounded.specs.Cells.{AreRecords, AreShownCells, AreWhole, HasFlawed, IsCellFault, IsReadCells, cells_in, cells_read, fault_at, given_by, lengths_read};
+ghost use Rattle.basinmug_cells.specs.Held.{row_ended};
 
 use crate::refusal::{CellFault, Refusal};
-use basinmug_input::fields::Field;
-use basinmug_input::{Flaw, cell_of};
+use basinmug_cells::Rows;
+use basinmug_input::{Flaw, push_field};
 use basinmug_run::{Escapes, RunFault};
 use std::alloc::{AllocError, Global};
 
@@ -36,8 +34,8 @@ pub(crate) fn rows_of_cells<'a>(
     cells: Cells<'_>,
     records: Option<usize>,
     escapes: Escapes,
-) -> Result<Vec<Vec<Field<'a>>>, Refusal>
-    ensures read { IfOk result (λ rows. IsReadCells escapes records (given_by cells.entry) (field_rows rows.items)) }
+) -> Result<Rows<'a>, Refusal>
+    ensures read { IfOk result (λ rows. IsReadCells escapes records (given_by cells.entry) rows.rows) }
     ensures refused { IfErr result (IsCellFault escapes records (given_by cells.entry)) }
 {
     if !are_records(cells) {
@@ -56,15 +54,12 @@ fn read_rows<'a>(
     cells: Cells<'_>,
     records: Option<usize>,
     escapes: Escapes,
-) -> Result<Result<Vec<Vec<Field<'a>>>, FlawedCell>, AllocError>
+) -> Result<Result<Rows<'a>, FlawedCell>, AllocError>
     requires { AreRecords (given_by cells) }
-    ensures { IfOk result (λ read. MatchResult read (λ rows. IsReadCells escapes records (given_by cells.entry) (field_rows rows.items)) (λ flawed. HasFlawed escapes (cells_read records (given_by cells.entry)) flawed.cell flawed.flaw)) }
+    ensures { IfOk result (λ read. MatchResult read (λ rows. IsReadCells escapes records (given_by cells.entry) rows.rows) (λ flawed. HasFlawed escapes (cells_read records (given_by cells.entry)) flawed.cell flawed.flaw)) }
 {
     let lengths = lengths_read(cells, records);
-    match read_cells(alloc, cells.bytes, lengths, escapes)? {
-        Ok(read) => Ok(Ok(in_rows(alloc, read, cells.per_record)?)),
-        Err(flawed) => Ok(Err(flawed)),
-    }
+    read_cells(alloc, cells.bytes, lengths, cells.per_record, escapes)
 }
 
 // Whether cells are whole records, and have all bytes.
@@ -113,68 +108,39 @@ fn lengths_read<'a>(cells: Cells<'a>, records: Option<usize>) -> &'a [usize]
     }
 }
 
-// The cells of these lengths, as a table shows them, or the first that can't be shown.
+// The cells of these lengths, as a table shows them, in rows of so many; or the first that can't be shown.
 fn read_cells<'a>(
     alloc: Global,
     bytes: &[u8],
     lengths: &[usize],
+    per_record: usize,
     escapes: Escapes,
-) -> Result<Result<Vec<Field<'a>>, FlawedCell>, AllocError>
-    requires { sum lengths.now ≤ length bytes.now }
-    ensures { IfOk result (λ read. MatchResult read (IsRowOf escapes (cells_in lengths.now bytes.now)) (λ flawed. HasFlawed escapes (cells_in lengths.now bytes.now) flawed.cell flawed.flaw)) }
+) -> Result<Result<Rows<'a>, FlawedCell>, AllocError>
+    requires enough { sum lengths.now ≤ length bytes.now }
+    requires whole { AreWhole (length lengths.now) per_record }
+    ensures { IfOk result (λ read. MatchResult read (λ rows. AreShownCells escapes per_record (cells_in lengths.now bytes.now) rows.rows) (λ flawed. HasFlawed escapes (cells_in lengths.now bytes.now) flawed.cell flawed.flaw)) }
 {
-    let mut cells = Vec::with_capacity(alloc, lengths.len())?;
+    let mut rows = Rows::new(alloc, "");
     let mut rest = bytes;
-    for count in lengths {
+    for (cell, count) in lengths.iter().enumerate() {
         let given = &rest[..*count];
         rest = &rest[*count..];
-        match cell_of(alloc, given, escapes)? {
-            Ok(cell) => cells.push(cell)?,
-            Err(flaw) => {
-                return Ok(Err(FlawedCell {
-                    cell: cells.len(),
-                    flaw,
-                }));
-            }
+        match push_field(&mut rows, alloc, given, escapes)? {
+            Ok(()) => end_full(&mut rows, per_record)?,
+            Err(flaw) => return Ok(Err(FlawedCell { cell, flaw })),
         }
     }
-    Ok(Ok(cells))
+    Ok(Ok(rows))
 }
 
-// Cells that are whole records, in these.
-fn in_rows<'a>(
-    alloc: Global,
-    cells: Vec<Field<'a>>,
-    per_record: usize,
-) -> Result<Vec<Vec<Field<'a>>>, AllocError>
-    requires { AreWhole (length cells.items) per_record }
-    ensures { IfOk result (λ rows. AreWholeRows per_record (map field_text cells.entry.items) (field_rows rows.items)) }
+// Ends the row that isn't ended, if it has so many cells.
+fn end_full(rows: &mut Rows<'_>, per_record: usize) -> Result<(), AllocError>
+    ensures { OnOk result (rows.new ≡ (if length rows.old.begun == per_record then row_ended rows.old else rows.old)) }
 {
-    let (rows, _none) = rows_and_rest(alloc, cells, per_record)?;
-    Ok(rows)
-}
-
-// Cells in records of so many, and the cells after these. A record has its memory from its first cell on.
-fn rows_and_rest<'a>(
-    alloc: Global,
-    cells: Vec<Field<'a>>,
-    per_record: usize,
-) -> Result<(Vec<Vec<Field<'a>>>, Vec<Field<'a>>), AllocError>
-    ensures joined { IfOk result (λ found. flat_map (λ row. row) (field_rows found.0.items) ++ map field_text found.1.items ≡ map field_text cells.entry.items) }
-    ensures whole { IfOk result (λ found. AllByRecursion (λ row. (length row ≡ per_record) × (0 < per_record)) (field_rows found.0.items)) }
-    ensures part { IfOk result (λ found. 0 < per_record → length found.1.items < per_record) }
-{
-    let mut rows = Vec::new(alloc);
-    let mut row = Vec::new(alloc);
-    for cell in cells {
-        row.reserve_exact(per_record.saturating_sub(row.len()))?;
-        row.push(cell)?;
-        if row.len() == per_record {
-            rows.push(row)?;
-            row = Vec::new(alloc);
-        }
+    if rows.begun_len() == per_record {
+        rows.end_row()?;
     }
-    Ok((rows, row))
+    Ok(())
 }
 
 // The error of a cell among records of so many.

@@ -5,14 +5,13 @@ ghost use Rattle.tabled_output.specs.Counts.{inner_of};
 ghost use Rattle.basinmug_bounded.specs.Cells.{given_by};
 ghost use Rattle.basinmug_bounded.specs.CellOutputs.{IsCellsPrinted, IsRowsPrinted, IsReadFault, PrintsRead};
 ghost use Rattle.basinmug_bounded.specs.Outputs.{HasRun, WroteAfter};
-ghost use Rattle.basinmug_input.specs.Fields.Fields.{field_rows};
 
 use crate::cells::{Cells, rows_of_cells};
 use crate::lent::{Lent, Limited};
 use crate::printing::{Size, sized};
 use crate::refusal::Refusal;
+use basinmug_cells::Rows;
 use basinmug_head::records_read;
-use basinmug_input::fields::Field;
 use basinmug_run::{Options, Printed, RunFault, print_rows};
 use bounded_output::Bounded;
 use std::alloc::Global;
@@ -42,11 +41,11 @@ pub fn print_cells_into(
 fn rows_into(
     alloc: Global,
     options: &Options,
-    rows: Vec<Vec<Field<'_>>>,
+    rows: Rows<'_>,
     max_size: usize,
     out: &mut [u8],
 ) -> Result<Size, Refusal>
-    ensures { IsRowsPrinted options.now (field_rows rows.entry.items) max_size out.old out.new result }
+    ensures { IsRowsPrinted options.now rows.entry.rows max_size out.old out.new result }
 {
     let most = max_size.min(usize::MAX - 1);
     let (outcome, bytes) = rows_bounded(alloc, options, rows, most + 1, out);
@@ -57,11 +56,11 @@ fn rows_into(
 fn rows_bounded(
     alloc: Global,
     options: &Options,
-    rows: Vec<Vec<Field<'_>>>,
+    rows: Rows<'_>,
     limit: usize,
     out: &mut [u8],
 ) -> (Result<Printed, RunFault>, usize)
-    ensures { HasRun (PrintsRead options.now (field_rows rows.entry.items)) (IsReadFault options.now (field_rows rows.entry.items)) limit out.old out.new result.0 result.1 }
+    ensures { HasRun (PrintsRead options.now rows.entry.rows) (IsReadFault options.now rows.entry.rows) limit out.old out.new result.0 result.1 }
 {
     let mut writer = Bounded::new(out, limit);
     let outcome = rows_to(alloc, options, rows, &mut writer);
@@ -73,10 +72,10 @@ fn rows_bounded(
 fn rows_to<W: Limited>(
     alloc: Global,
     options: &Options,
-    rows: Vec<Vec<Field<'_>>>,
+    rows: Rows<'_>,
     writer: &mut W,
 ) -> Result<Printed, RunFault>
-    ensures { IfSome (W.contents writer.old) (WroteAfter (PrintsRead options.now (field_rows rows.entry.items)) (IsReadFault options.now (field_rows rows.entry.items)) (W.contents writer.new) result) }
+    ensures { IfSome (W.contents writer.old) (WroteAfter (PrintsRead options.now rows.entry.rows) (IsReadFault options.now rows.entry.rows) (W.contents writer.new) result) }
 {
     let mut counted = Counted::new(Lent { writer });
     let outcome = run_rows(alloc, options, rows, &mut counted);
@@ -90,14 +89,14 @@ fn rows_to<W: Limited>(
 fn run_rows<W: Write>(
     alloc: Global,
     options: &Options,
-    rows: Vec<Vec<Field<'_>>>,
+    rows: Rows<'_>,
     writer: &mut Counted<W>,
 ) -> Result<Printed, RunFault>
-    ensures printed { IfOk result (λ printed. PrintsRows options.now (field_rows rows.entry.items) printed.wider (W.contents (inner_of writer.old)) (W.contents (inner_of writer.new))) }
+    ensures printed { IfOk result (λ printed. PrintsRows options.now rows.entry.rows printed.wider (W.contents (inner_of writer.old)) (W.contents (inner_of writer.new))) }
     ensures front { OnErr result ((writer.new ≡ writer.old) ⊎
-        PrintsRowsFront options.now (field_rows rows.entry.items) (W.contents (inner_of writer.old)) (W.contents (inner_of writer.new))) }
+        PrintsRowsFront options.now rows.entry.rows (W.contents (inner_of writer.old)) (W.contents (inner_of writer.new))) }
     ensures untouched { IfErr result (λ fault. IsRunWithoutText fault → writer.new ≡ writer.old) }
-    ensures refused { IfErr result (IsReadFault options.now (field_rows rows.entry.items)) }
+    ensures refused { IfErr result (IsReadFault options.now rows.entry.rows) }
 {
     let printed = print_rows(alloc, rows, options, writer)?;
     Ok(printed)

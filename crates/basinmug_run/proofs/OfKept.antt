@@ -1,13 +1,9 @@
 -- Rows that are kept of others.
-use Rattle.std.proofs.Common.{◌≡◌, ◌∙◌, ◌+◌, ◌-◌, ◌<◌, ◌≤◌, ◌^◌, ap, ap₂, sym, refl, arith, inl, inr, ℕ, zero, suc, min, take, drop, Bool, true, false, List, [], ◌∷◌, ◌++◌, Option, None, Some, length, map}
-use Rattle.std.specs.Prelude.{Vec, vec_items}
-use Rattle.std.specs.declared.alloc.Global.{Global}
+use Rattle.std.proofs.Common.{◌≡◌, ◌∙◌, ◌+◌, ◌-◌, ◌<◌, ◌≤◌, ◌^◌, ap, sym, refl, arith, inl, inr, ℕ, zero, suc, min, take, drop, Bool, true, false, List, [], ◌∷◌, ◌++◌, Option, None, Some, length}
 use Rattle.std.proofs.lemmas.Bool.{cases_lt}
-use Rattle.std.proofs.lemmas.List.{drop-map, drop_all, length-append, length-drop, length-map, length-take, map-append, take-map, take_all}
+use Rattle.std.proofs.lemmas.List.{drop_all, length-append, length-drop, length-take, take_all}
 use Rattle.tabled_text.specs.Rows.{longest}
 use Rattle.basinmug_columns.specs.declared.rows.RowsShown.{RowsShown}
-use Rattle.basinmug_input.specs.Fields.Fields.{field_rows, field_text}
-use Rattle.basinmug_input.specs.declared.fields.field.Field.{Field}
 use Rattle.basinmug_input.specs.Kept.{kept_rows, last_of, rows_left_out}
 use Rattle.basinmug_input.specs.declared.kept.RowChoice.{RowChoice}
 use Rattle.basinmug_input.specs.declared.kept.RowChoice.TheVariants.{All as AllRows, Ends}
@@ -18,21 +14,6 @@ use Rattle.basinmug_run.specs.Columns.{missing_choices, missing_in, missing_of_c
 use Rattle.basinmug_run.specs.Picture.Names.{missing_names}
 use Rattle.basinmug_run.specs.Kept.{Kept, choice_by, choice_of, first_rows, kept_of, kept_read, shown_by, shown_rows}
 use Rattle.basinmug_run.specs.Picture.Rows.{header_of, header_rows}
-
--- ---- texts of rows
-
-last-mapped : {X Y : Type 0} (f : X → Y) (most : ℕ) (xs : List X) → map f (last_of most xs) ≡ last_of most (map f xs)
-last-mapped f most xs = sym (drop-map f (length xs - most) xs) ∙ ap (λ (n : ℕ). drop (n - most) (map f xs)) (sym (length-map xs f))
-
-kept-mapped : {X Y : Type 0} (f : X → Y) (choice : RowChoice) (xs : List X) → map f (kept_rows choice xs) ≡ kept_rows choice (map f xs)
-kept-mapped f AllRows xs = refl
-kept-mapped {X} {Y} f (Ends first last) xs =
-    map-append f (take first xs) (last_of last (drop first xs))
-    ∙ ap₂ (λ (a b : List Y). a ++ b) (sym (take-map f first xs)) (last-mapped f last (drop first xs) ∙ ap (last_of last) (sym (drop-map f first xs)))
-
--- the texts of kept rows are the kept texts
-pub kept-fields : (choice : RowChoice) (items : List (Vec Field Global)) → field_rows (kept_rows choice items) ≡ kept_rows choice (field_rows items)
-kept-fields choice items = kept-mapped (λ (row : Vec Field Global). map field_text (vec_items row)) choice items
 
 -- ---- all of it
 

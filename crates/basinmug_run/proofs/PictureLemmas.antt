@@ -3,6 +3,7 @@ pub mod Missing
 pub mod Widths
 pub mod Fitted
 pub mod FittedCells
+pub mod Setters
 pub mod Behind
 pub mod Built
 pub mod Faults

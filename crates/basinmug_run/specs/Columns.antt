@@ -69,6 +69,11 @@ abbrev pub shown_field : List (List ℕ) → ShownColumn → List ℕ
 shown_field row (Number number) = slice_index_or row number []
 shown_field row LeftOut = ellipsis
 
+-- the number of a column that is shown
+abbrev pub number_if_shown : ShownColumn → Option ℕ
+number_if_shown (Number number) = Some number
+number_if_shown LeftOut = None
+
 -- these columns of a row
 abbrev pub shown_row : List ShownColumn → List (List ℕ) → List (List ℕ)
 shown_row columns row = map (shown_field row) columns

@@ -4,7 +4,6 @@ use Rattle.std.specs.Prelude.{ℕ, ◌+◌, ◌-◌, ◌==◌, ◌^◌, min, Boo
 use Rattle.tabled_text.specs.Rows.{longest}
 use Rattle.basinmug_columns.specs.declared.rows.RowsShown.{RowsShown}
 use Rattle.basinmug_columns.specs.declared.rows.RowsShown.TheVariants.{All as AllShown, More, Earlier, Between}
-use Rattle.basinmug_input.specs.Fields.Fields.{field_rows}
 use Rattle.basinmug_input.specs.Kept.{kept_rows, rows_left_out}
 use Rattle.basinmug_input.specs.declared.kept.RowChoice.{RowChoice}
 use Rattle.basinmug_input.specs.declared.kept.RowChoice.TheVariants.{All as AllRows, Ends}
@@ -49,7 +48,7 @@ pub record Kept : Type 0 where
 
 -- as the code has them
 abbrev pub kept_view : KeptRows → Kept
-kept_view kept = record { rows = field_rows kept.rows.items; shown = kept.shown; columns = kept.columns }
+kept_view kept = record { rows = kept.rows.rows; shown = kept.shown; columns = kept.columns }
 
 module _ (options : Options) where
   -- those that are read, where so many are left out and the longest of all has so many fields

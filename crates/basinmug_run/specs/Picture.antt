@@ -3,7 +3,8 @@ pub mod Rows
 pub mod Names
 pub mod Settings
 pub mod Fitting
-pub mod FittedCells
+pub mod TableRows
+pub mod EvenRows
 pub mod Narrowing
 pub mod Documents
 pub mod Lines

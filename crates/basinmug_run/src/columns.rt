@@ -1,8 +1,8 @@
 //! Rows of chosen columns, and what is requested of these.
-ghost use Rattle.std.specs.Prelude.{◌≡◌, ◌++◌, ◌+◌, ◌-◌, ℕ, [], IfErr, IfOk, OnOk, Some, map, option_map, slice_index_or};
+ghost use Rattle.std.specs.Prelude.{◌≡◌, ◌++◌, ◌+◌, ◌-◌, ℕ, [], IfErr, IfOk, OnOk, Some, map, option_map};
 ghost use Rattle.basinmug_columns.specs.Names.{number_of};
 ghost use Rattle.basinmug_columns.specs.Shown.{numbered};
-ghost use Rattle.basinmug_input.specs.Fields.Fields.{field_rows, field_text};
+ghost use Rattle.basinmug_cells.specs.Views.{view_rows};
 ghost use Rattle.basinmug_run.specs.Columns.{
   AreOfValues,
   are_none,
@@ -16,11 +16,10 @@ ghost use Rattle.basinmug_run.specs.Columns.{
   missing_choices,
   missing_of_columns,
   missing_name,
+  number_if_shown,
   number_in,
   past_last,
   placed,
-  shown_field,
-  shown_row,
   value_at,
   value_in,
   with_columns,
@@ -29,8 +28,8 @@ ghost use Rattle.basinmug_run.specs.Picture.Names.{IsFirstMissing, missing_by, t
 
 use crate::options::Options;
 use crate::picture::{PrintFault, header_of};
+use basinmug_cells::{Rows, RowsView};
 use basinmug_columns::{NamedColumns, ShownColumn, push_numbers};
-use basinmug_input::fields::Field;
 use grid_config::ANSIBuf;
 use grid_config_values::{AlignmentHorizontal, CloneIn};
 use program_options::basinmug::{ColumnChoice, ColumnName};
@@ -79,15 +78,15 @@ pub(crate) struct Named<'a> {
 /// allocation fails.
 pub(crate) fn named_in<'a>(
     alloc: Global,
-    rows: &[Vec<Field<'_>>],
+    rows: RowsView<'_>,
     count: usize,
     options: &'a Options,
 ) -> Result<Named<'a>, PrintFault>
-    ensures columns { IfOk result (λ it. it.columns.items ≡ columns_in options.now (field_rows rows.now)) }
-    ensures alignments { IfOk result (λ it. (column : ℕ) → value_in it.alignments column ≡ last_for (given_for (number_in options.now (field_rows rows.now)) options.now.alignments.items) column) }
-    ensures colors { IfOk result (λ it. (column : ℕ) → value_in it.colors column ≡ last_for (given_for (number_in options.now (field_rows rows.now)) options.now.colors.items) column) }
-    ensures named { OnOk result (missing_of_columns options.now count (field_rows rows.now) ≡ []) }
-    ensures refused { IfErr result (IsFirstMissing (missing_of_columns options.now count (field_rows rows.now))) }
+    ensures columns { IfOk result (λ it. it.columns.items ≡ columns_in options.now (view_rows rows.entry)) }
+    ensures alignments { IfOk result (λ it. (column : ℕ) → value_in it.alignments column ≡ last_for (given_for (number_in options.now (view_rows rows.entry)) options.now.alignments.items) column) }
+    ensures colors { IfOk result (λ it. (column : ℕ) → value_in it.colors column ≡ last_for (given_for (number_in options.now (view_rows rows.entry)) options.now.colors.items) column) }
+    ensures named { OnOk result (missing_of_columns options.now count (view_rows rows.entry) ≡ []) }
+    ensures refused { IfErr result (IsFirstMissing (missing_of_columns options.now count (view_rows rows.entry))) }
 {
     let header = header_of(options.header, rows);
     let named = NamedColumns::new(alloc, header)?;
@@ -246,54 +245,33 @@ fn push_asked<T: CloneIn>(
 /// Fails only where allocation fails.
 pub(crate) fn with_columns<'a>(
     alloc: Global,
-    rows: Vec<Vec<Field<'a>>>,
+    rows: Rows<'a>,
     shown: &[ShownColumn],
-) -> Result<Vec<Vec<Field<'a>>>, AllocError>
-    ensures { IfOk result (λ chosen. field_rows chosen.items ≡ with_columns shown.now (field_rows rows.entry.items)) }
+) -> Result<Rows<'a>, AllocError>
+    ensures { IfOk result (λ chosen. chosen.rows ≡ with_columns shown.now rows.entry.rows) }
 {
-    let mut chosen = Vec::with_capacity(alloc, rows.len())?;
-    for row in rows {
-        chosen.push(shown_row(alloc, &row, shown)?)?;
-    }
-    Ok(chosen)
+    let columns = numbers_of(alloc, shown)?;
+    rows.select(alloc, &columns, "…")
 }
 
-// These columns of a row.
-fn shown_row<'a>(
-    alloc: Global,
-    row: &[Field<'a>],
-    shown: &[ShownColumn],
-) -> Result<Vec<Field<'a>>, AllocError>
-    ensures { IfOk result (λ fields. map field_text fields.items ≡ shown_row shown.now (map field_text row.now)) }
+// The number of each column that is shown, and none for those that are left out.
+fn numbers_of(alloc: Global, shown: &[ShownColumn]) -> Result<Vec<Option<usize>>, AllocError>
+    ensures { IfOk result (λ numbers. numbers.items ≡ map number_if_shown shown.now) }
 {
-    let mut fields = Vec::with_capacity(alloc, shown.len())?;
+    let mut numbers = Vec::with_capacity(alloc, shown.len())?;
     for column in shown {
-        fields.push(shown_field(alloc, row, *column)?)?;
+        numbers.push(number_if_shown(*column))?;
     }
-    Ok(fields)
+    Ok(numbers)
 }
 
-// The field of a row in a column that is shown.
-fn shown_field<'a>(
-    alloc: Global,
-    row: &[Field<'a>],
-    column: ShownColumn,
-) -> Result<Field<'a>, AllocError>
-    ensures { IfOk result (λ field. field_text field ≡ shown_field (map field_text row.now) column) }
+// The number of a column that is shown.
+fn number_if_shown(column: ShownColumn) -> Option<usize>
+    ensures { result ≡ number_if_shown column }
 {
     match column {
-        ShownColumn::Number(number) => field_at(alloc, row, number),
-        ShownColumn::LeftOut => Field::own(alloc, String::from_str(alloc, "…")?),
-    }
-}
-
-// The field of a row in a column of this number, and an empty one where the row is shorter.
-fn field_at<'a>(alloc: Global, row: &[Field<'a>], number: usize) -> Result<Field<'a>, AllocError>
-    ensures { IfOk result (λ field. field_text field ≡ slice_index_or (map field_text row.now) number []) }
-{
-    match row.get(number) {
-        Some(field) => field.copied(alloc),
-        None => Field::own(alloc, String::new(alloc)),
+        ShownColumn::Number(number) => Some(number),
+        ShownColumn::LeftOut => None,
     }
 }
 

@@ -1,21 +1,19 @@
 //! The rows that are shown, of all that there are.
-ghost use Rattle.std.specs.Prelude.{◌≡◌, ◌≤◌, vec_len};
-ghost use Rattle.basinmug_input.specs.Fields.Fields.{field_rows};
+ghost use Rattle.std.specs.Prelude.{◌≡◌, ◌≤◌, length};
 ghost use Rattle.basinmug_input.specs.Kept.{kept_rows};
 ghost use Rattle.basinmug_run.specs.Kept.{choice_of, first_rows, kept_of, kept_read, kept_view, shown_between, shown_by};
 
 use crate::options::Options;
 use crate::picture::header_rows;
+use basinmug_cells::{Rows, longest};
 use basinmug_columns::RowsShown;
-use basinmug_input::fields::Field;
 use basinmug_input::{ReadRows, RowChoice};
-use tabled_text::longest_row;
 
 /// The rows that are shown, and what is known of all.
 #[derive(Drop)]
 pub(crate) struct KeptRows<'a> {
     /// The rows that are shown, in their order.
-    pub rows: Vec<Vec<Field<'a>>>,
+    pub rows: Rows<'a>,
     /// Which of all these are, and how many are left out.
     pub shown: RowsShown,
     /// How many fields the longest of all rows has.
@@ -76,7 +74,7 @@ fn shown_between(first: usize, left_out: usize) -> RowsShown
 
 /// What is shown of rows that are read by the choice of the options.
 pub(crate) fn kept_read<'a>(read: ReadRows<'a>, options: &Options) -> KeptRows<'a>
-    ensures { kept_view result ≡ kept_read options.now (field_rows read.entry.rows.items) read.entry.left_out read.entry.columns }
+    ensures { kept_view result ≡ kept_read options.now read.entry.rows.rows read.entry.left_out read.entry.columns }
 {
     let ReadRows {
         rows,
@@ -93,11 +91,10 @@ pub(crate) fn kept_read<'a>(read: ReadRows<'a>, options: &Options) -> KeptRows<'
 }
 
 /// What is shown of rows.
-pub(crate) fn kept_of<'a>(rows: Vec<Vec<Field<'a>>>, options: &Options) -> KeptRows<'a>
-    ensures { kept_view result ≡ kept_of options.now (field_rows rows.entry.items) }
+pub(crate) fn kept_of<'a>(rows: Rows<'a>, options: &Options) -> KeptRows<'a>
+    ensures { kept_view result ≡ kept_of options.now rows.entry.rows }
 {
-    let texts = rows.as_slice();
-    let columns = longest_row(texts);
+    let columns = longest(rows.view());
     let count = rows.len();
     let choice = choice_of(options);
     let kept = cut_rows(rows, choice);
@@ -111,25 +108,16 @@ pub(crate) fn kept_of<'a>(rows: Vec<Vec<Field<'a>>>, options: &Options) -> KeptR
 }
 
 // The rows that are kept of these.
-fn cut_rows<'a>(rows: Vec<Vec<Field<'a>>>, choice: RowChoice) -> Vec<Vec<Field<'a>>>
-    ensures rows { field_rows result.items ≡ kept_rows choice (field_rows rows.entry.items) }
-    ensures fewer { vec_len result ≤ vec_len rows.entry }
+fn cut_rows<'a>(rows: Rows<'a>, choice: RowChoice) -> Rows<'a>
+    ensures rows { result.rows ≡ kept_rows choice rows.entry.rows }
+    ensures fewer { length result.rows ≤ length rows.entry.rows }
 {
     match choice {
         RowChoice::All => rows,
-        RowChoice::Ends { first, last } => without_middle(rows, first, last),
+        RowChoice::Ends { first, last } => {
+            let mut kept = rows;
+            kept.keep_ends(first, last);
+            kept
+        }
     }
-}
-
-// The first of some rows, and of those after them the last.
-fn without_middle<T: Drop>(rows: Vec<T>, first: usize, last: usize) -> Vec<T>
-    ensures kept { result.items ≡ kept_rows (RowChoice.Ends first last) rows.items }
-    ensures fewer { vec_len result ≤ vec_len rows }
-{
-    let mut rows = rows;
-    let count = rows.len();
-    let start = first.min(count);
-    let end = count - last.min(count - start);
-    drop(rows.drain(start..end));
-    rows
 }

@@ -13,6 +13,7 @@ mod narrowing;
 mod printing;
 mod rows;
 mod settings;
+mod table_rows;
 
 pub(crate) use facts::{ColumnFacts, known_or_found};
 pub use fault::PrintFault;

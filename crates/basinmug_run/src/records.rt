@@ -1,7 +1,6 @@
 //! Records one below the other.
 ghost use Rattle.std.specs.Prelude.{◌≡◌, ◌⊎◌, IfErr, IfOk, IsErrOf, OnErr};
 ghost use Rattle.tabled_output.specs.Counts.{WritesUntil, inner_of};
-ghost use Rattle.basinmug_input.specs.Fields.Fields.{field_rows};
 ghost use Rattle.basinmug_run.specs.Columns.{rows_with};
 ghost use Rattle.basinmug_run.specs.Kept.{kept_view};
 ghost use Rattle.basinmug_run.specs.Picture.Printed.{IsWithoutText};
@@ -11,9 +10,9 @@ use crate::columns::{chooses_none, named_in, with_columns};
 use crate::kept::KeptRows;
 use crate::options::Options;
 use crate::picture::{PrintFault, Printed, header_of, records_of};
+use basinmug_cells::Rows;
 use basinmug_columns::{RowsShown, ShownColumn};
 use basinmug_expanded::{Form, write_records};
-use basinmug_input::fields::Field;
 use std::alloc::{AllocError, Global};
 use std::io::Write;
 use tabled_output::{BuildFault, Counted};
@@ -38,7 +37,7 @@ pub(crate) fn print_records<W: Write>(
         shown,
         columns: count,
     } = kept;
-    let texts = rows.as_slice();
+    let texts = rows.view();
     let named = named_in(alloc, texts, count, options)?;
     let columns = named.columns.as_slice();
     let chosen = rows_of(alloc, rows, options, columns)?;
@@ -50,19 +49,19 @@ pub(crate) fn print_records<W: Write>(
 // the writer failed.
 fn print_shown<W: Write>(
     alloc: Global,
-    rows: Vec<Vec<Field<'_>>>,
+    rows: Rows<'_>,
     shown: RowsShown,
     options: &Options,
     writer: &mut Counted<W>,
 ) -> Result<Printed, PrintFault>
-    ensures printed { IfOk result (λ printed. WritesRecords options.now shown (field_rows rows.entry.items) printed.wider (W.contents (inner_of writer.old)) (W.contents (inner_of writer.new))) }
+    ensures printed { IfOk result (λ printed. WritesRecords options.now shown rows.entry.rows printed.wider (W.contents (inner_of writer.old)) (W.contents (inner_of writer.new))) }
     ensures front { OnErr result ((writer.new ≡ writer.old) ⊎
-        WritesRecordsFront options.now shown (field_rows rows.entry.items) (W.contents (inner_of writer.old)) (W.contents (inner_of writer.new))) }
+        WritesRecordsFront options.now shown rows.entry.rows (W.contents (inner_of writer.old)) (W.contents (inner_of writer.new))) }
     ensures untouched { IfErr result (λ fault. IsWithoutText fault → writer.new ≡ writer.old) }
     ensures refused { IfErr result IsWritingFault }
     ensures writer { WritesUntil (IsErrOf result (PrintFault.Table BuildFault.Write)) (IsErrOf result (PrintFault.Table BuildFault.WriteZero)) writer.old writer.new }
 {
-    let texts = rows.as_slice();
+    let texts = rows.view();
     let form = Form {
         header: options.header,
         width: options.width,
@@ -78,11 +77,11 @@ fn print_shown<W: Write>(
 // The rows themselves where no columns are chosen, and else these columns of them.
 fn rows_of<'a>(
     alloc: Global,
-    rows: Vec<Vec<Field<'a>>>,
+    rows: Rows<'a>,
     options: &Options,
     chosen: &[ShownColumn],
-) -> Result<Vec<Vec<Field<'a>>>, AllocError>
-    ensures { IfOk result (λ shown. field_rows shown.items ≡ rows_with options.now.columns.items chosen.now (field_rows rows.entry.items)) }
+) -> Result<Rows<'a>, AllocError>
+    ensures { IfOk result (λ shown. shown.rows ≡ rows_with options.now.columns.items chosen.now rows.entry.rows) }
 {
     if chooses_none(options) {
         return Ok(rows);

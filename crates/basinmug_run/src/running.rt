@@ -1,7 +1,6 @@
 //! From bytes to a writer: the rows, and their table.
 ghost use Rattle.std.specs.Prelude.{◌≡◌, ◌⊎◌, IfErr, IfOk, IsErrOf, OnErr, OnOk};
 ghost use Rattle.tabled_output.specs.Counts.{WritesUntil, inner_of};
-ghost use Rattle.basinmug_input.specs.Fields.Fields.{field_rows};
 ghost use Rattle.basinmug_input.specs.Faults.{IsReadable};
 ghost use Rattle.basinmug_input.specs.Reading.{settings};
 ghost use Rattle.basinmug_input.specs.Rows.{rows_in, text_of_bytes};
@@ -17,7 +16,7 @@ use crate::options::Options;
 use crate::picture::{ColumnFacts, PrintFault, Printed, Shown, print_shown};
 use crate::records::print_records;
 use crate::table_columns::{WholeRows, columns_of_table, whole_rows};
-use basinmug_input::fields::Field;
+use basinmug_cells::Rows;
 use basinmug_input::rows_of;
 use std::alloc::Global;
 use std::io::Write;
@@ -55,15 +54,15 @@ pub fn run<W: Write>(
 /// flushed.
 pub fn print_rows<W: Write>(
     alloc: Global,
-    rows: Vec<Vec<Field<'_>>>,
+    rows: Rows<'_>,
     options: &Options,
     writer: &mut Counted<W>,
 ) -> Result<Printed, PrintFault>
-    ensures printed { IfOk result (λ printed. PrintsRows options.now (field_rows rows.entry.items) printed.wider (W.contents (inner_of writer.old)) (W.contents (inner_of writer.new))) }
+    ensures printed { IfOk result (λ printed. PrintsRows options.now rows.entry.rows printed.wider (W.contents (inner_of writer.old)) (W.contents (inner_of writer.new))) }
     ensures front { OnErr result ((writer.new ≡ writer.old) ⊎
-        PrintsRowsFront options.now (field_rows rows.entry.items) (W.contents (inner_of writer.old)) (W.contents (inner_of writer.new))) }
+        PrintsRowsFront options.now rows.entry.rows (W.contents (inner_of writer.old)) (W.contents (inner_of writer.new))) }
     ensures untouched { IfErr result (λ fault. IsWithoutText fault → writer.new ≡ writer.old) }
-    ensures refused { IfErr result (IsRowsFault options.now (field_rows rows.entry.items)) }
+    ensures refused { IfErr result (IsRowsFault options.now rows.entry.rows) }
     ensures writer { WritesUntil (IsErrOf result (PrintFault.Table BuildFault.Write)) (IsErrOf result (PrintFault.Table BuildFault.WriteZero)) writer.old writer.new }
 {
     let kept = kept_of(rows, options);
@@ -104,7 +103,7 @@ fn print_as_table<W: Write>(
     ensures refused { IfErr result (IsAsTableFault options.now (kept_view kept.entry)) }
     ensures writer { WritesUntil (IsErrOf result (PrintFault.Table BuildFault.Write)) (IsErrOf result (PrintFault.Table BuildFault.WriteZero)) writer.old writer.new }
 {
-    let texts = kept.rows.as_slice();
+    let texts = kept.rows.view();
     let whole = whole_rows(alloc, texts, options)?;
     let WholeRows { are_shown, facts } = whole;
     if are_shown {
@@ -139,7 +138,7 @@ fn print_columns<W: Write>(
         shown,
         columns: count,
     } = kept;
-    let texts = rows.as_slice();
+    let texts = rows.view();
     let named = named_in(alloc, texts, count, options)?;
     let chosen = named.columns.as_slice();
     let columns = columns_of_table(alloc, texts, options, chosen, known)?;

@@ -1,18 +1,17 @@
 //! The columns that a table has: all, those that are chosen, or those of them that fit.
 ghost use Rattle.std.specs.Prelude.{◌≡◌, IfOk, [], Some, length};
 ghost use Rattle.std.specs.List.{count_by};
-ghost use Rattle.basinmug_input.specs.Fields.Fields.{field_rows};
+ghost use Rattle.basinmug_cells.specs.Views.{view_rows};
 ghost use Rattle.basinmug_run.specs.Columns.{columns_of_table, fitting_of, fitting_width, is_lined, is_of_input, shows_whole_rows, wanted_columns};
 ghost use Rattle.basinmug_run.specs.Picture.Known.{AreKnown};
 
 use crate::columns::chooses_none;
 use crate::options::{ColumnsShown, Options};
 use crate::picture::{ColumnFacts, known_or_found, narrowed_to};
+use basinmug_cells::{RowsView, longest};
 use basinmug_columns::{ShownColumn, columns_that_fit, push_numbers};
-use basinmug_input::fields::Field;
 use program_options::basinmug::LineStyle;
 use std::alloc::{AllocError, Global};
-use tabled_text::longest_row;
 
 /// The columns that a table has.
 #[derive(Drop)]
@@ -53,15 +52,15 @@ impl TableColumns {
 /// found again. Fails only where allocation fails.
 pub(crate) fn columns_of_table(
     alloc: Global,
-    rows: &[Vec<Field<'_>>],
+    rows: RowsView<'_>,
     options: &Options,
     chosen: &[ShownColumn],
     known: Option<ColumnFacts>,
 ) -> Result<TableColumns, AllocError>
-    requires { AreKnown options.now.header (field_rows rows.now) known }
-    ensures shown { IfOk result (λ it. it.shown.items ≡ columns_of_table options.now (field_rows rows.now) chosen.now) }
-    ensures all { IfOk result (λ it. it.all ≡ length (wanted_columns options.now (field_rows rows.now) chosen.now)) }
-    ensures known { IfOk result (λ it. AreKnown options.now.header (field_rows rows.now) it.facts) }
+    requires { AreKnown options.now.header (view_rows rows) known }
+    ensures shown { IfOk result (λ it. it.shown.items ≡ columns_of_table options.now (view_rows rows.entry) chosen.now) }
+    ensures all { IfOk result (λ it. it.all ≡ length (wanted_columns options.now (view_rows rows.entry) chosen.now)) }
+    ensures known { IfOk result (λ it. AreKnown options.now.header (view_rows rows.entry) it.facts) }
 {
     let wanted = wanted_columns(alloc, rows, options, chosen)?;
     let all = wanted.len();
@@ -74,11 +73,11 @@ pub(crate) fn columns_of_table(
 /// fails.
 pub(crate) fn whole_rows(
     alloc: Global,
-    rows: &[Vec<Field<'_>>],
+    rows: RowsView<'_>,
     options: &Options,
 ) -> Result<WholeRows, AllocError>
-    ensures whole { IfOk result (λ whole. whole.are_shown ≡ shows_whole_rows options.now (field_rows rows.now)) }
-    ensures known { IfOk result (λ whole. AreKnown options.now.header (field_rows rows.now) whole.facts) }
+    ensures whole { IfOk result (λ whole. whole.are_shown ≡ shows_whole_rows options.now (view_rows rows.entry)) }
+    ensures known { IfOk result (λ whole. AreKnown options.now.header (view_rows rows.entry) whole.facts) }
 {
     let none = chooses_none(options);
     if !none {
@@ -99,34 +98,33 @@ pub(crate) fn whole_rows(
 // The columns that a table may have: those of its rows, or those that are chosen.
 fn wanted_columns(
     alloc: Global,
-    rows: &[Vec<Field<'_>>],
+    rows: RowsView<'_>,
     options: &Options,
     chosen: &[ShownColumn],
 ) -> Result<Vec<ShownColumn>, AllocError>
-    ensures { IfOk result (λ columns. columns.items ≡ wanted_columns options.now (field_rows rows.now) chosen.now) }
+    ensures { IfOk result (λ columns. columns.items ≡ wanted_columns options.now (view_rows rows.entry) chosen.now) }
 {
     let none = chooses_none(options);
     if !none {
         let columns = Vec::from_slice(alloc, chosen)?;
         return Ok(columns);
     }
-    let longest = longest_row(rows);
     let mut columns = Vec::new(alloc);
-    push_numbers(&mut columns, 0, longest)?;
+    push_numbers(&mut columns, 0, longest(rows))?;
     Ok(columns)
 }
 
 // Those of some columns that fit, by what they need in these rows.
 fn fitting_columns(
     alloc: Global,
-    rows: &[Vec<Field<'_>>],
+    rows: RowsView<'_>,
     options: &Options,
     columns: Vec<ShownColumn>,
     known: Option<ColumnFacts>,
 ) -> Result<FittingColumns, AllocError>
-    requires { AreKnown options.now.header (field_rows rows.now) known }
-    ensures shown { IfOk result (λ it. it.shown.items ≡ fitting_of options.now (field_rows rows.now) (fitting_width options.now) columns.items) }
-    ensures known { IfOk result (λ it. AreKnown options.now.header (field_rows rows.now) it.facts) }
+    requires { AreKnown options.now.header (view_rows rows) known }
+    ensures shown { IfOk result (λ it. it.shown.items ≡ fitting_of options.now (view_rows rows.entry) (fitting_width options.now) columns.items) }
+    ensures known { IfOk result (λ it. AreKnown options.now.header (view_rows rows.entry) it.facts) }
 {
     match fitting_width(options) {
         None => Ok(FittingColumns {
@@ -143,15 +141,15 @@ fn fitting_columns(
 // Those of some columns that fit in a width.
 fn fitting_in(
     alloc: Global,
-    rows: &[Vec<Field<'_>>],
+    rows: RowsView<'_>,
     options: &Options,
     columns: &[ShownColumn],
     known: Option<ColumnFacts>,
     width: usize,
 ) -> Result<FittingColumns, AllocError>
-    requires { AreKnown options.now.header (field_rows rows.now) known }
-    ensures shown { IfOk result (λ it. it.shown.items ≡ fitting_of options.now (field_rows rows.now) (Some width) columns.now) }
-    ensures known { IfOk result (λ it. AreKnown options.now.header (field_rows rows.now) it.facts) }
+    requires { AreKnown options.now.header (view_rows rows) known }
+    ensures shown { IfOk result (λ it. it.shown.items ≡ fitting_of options.now (view_rows rows.entry) (Some width) columns.now) }
+    ensures known { IfOk result (λ it. AreKnown options.now.header (view_rows rows.entry) it.facts) }
 {
     let facts = known_or_found(alloc, options.header, rows, known)?;
     let lined = is_lined(options.line_style);

@@ -1,10 +1,6 @@
 -- What is printed of rows, by what is printed of their table.
-use Rattle.std.proofs.Common.{◌≡◌, ◌⊎◌, ◌∙◌, ap, subst, sym, ℕ, List, [], Option, None, Some, Result, Ok, Err, inl, inr, length, map}
-use Rattle.std.specs.Prelude.{⊤, IfErr, IfOk, MatchOption, OnErr, Vec, vec_items}
-use Rattle.std.specs.declared.alloc.Global.{Global}
-use Rattle.basinmug_input.specs.Fields.Fields.{field_rows, field_text}
-use Rattle.basinmug_input.specs.declared.fields.field.Field.{Field}
-use Rattle.std.proofs.lemmas.List.{length-map}
+use Rattle.std.proofs.Common.{◌≡◌, ◌⊎◌, ◌∙◌, ap, subst, sym, ℕ, List, [], Option, None, Some, Result, Ok, Err, inl, inr, length}
+use Rattle.std.specs.Prelude.{⊤, IfErr, IfOk, MatchOption, OnErr}
 use Rattle.grid_config_values.specs.declared.fault.Fault.{Fault}
 use Rattle.tabled.specs.Printing.{IsFitsAnswer}
 use Rattle.tabled.specs.Tables.{new_state}
@@ -28,8 +24,8 @@ use Rattle.basinmug_run.specs.declared.picture.printing.Printed.{Printed}
 
 module _ (options : Options) (shown : RowsShown) (rows : List (List (List ℕ))) where
   -- as many rows as there are cells
-  pub length-cells : (items : List (Vec Field Global)) (len : ℕ) → len ≡ length items → field_rows items ≡ cells_in options shown rows → len ≡ length (cells_in options shown rows)
-  length-cells items len is are = is ∙ sym (length-map items (λ row. map field_text (vec_items row))) ∙ ap length are
+  pub length-cells : (cells : List (List (List ℕ))) (len : ℕ) → len ≡ length cells → cells ≡ cells_in options shown rows → len ≡ length (cells_in options shown rows)
+  length-cells cells len is are = is ∙ ap length are
 
   -- a name that is missing
   pub no-column : (fault : PrintFault) → IsFirstMissing (missing_of options rows) fault → IsShownFault options shown rows fault

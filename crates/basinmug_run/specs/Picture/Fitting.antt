@@ -1,5 +1,5 @@
 -- A table whose texts are fitted to the widths that their columns get.
-use Rattle.std.specs.Prelude.{ℕ, ◌-◌, nat_lt, Bool, true, false, List, [], ◌∷◌, Option, None, Some, if◌then◌else◌, length, slice_index, unwrap_or}
+use Rattle.std.specs.Prelude.{ℕ, ◌+◌, ◌-◌, nat_lt, Bool, true, false, List, [], ◌∷◌, Option, None, Some, if◌then◌else◌, length, map, slice_index, unwrap_or}
 use Rattle.std.specs.List.{flat_map, range_with_len}
 use Rattle.grid_config_values.specs.declared.entity.Entity.TheVariants.{Column, Global as EveryCell}
 use Rattle.grid_records_measure.specs.TextLines.{text_width}
@@ -33,6 +33,15 @@ module _ (truncate : Bool) (widths rooms : List ℕ) where
   -- what it becomes, or the text as it is where it stays
   abbrev pub fitted_at : ℕ → List ℕ → List ℕ
   fitted_at column text = unwrap_or (fitted column text) text
+
+  -- the texts of a row, of which the first is in this column
+  abbrev pub fitted_row : ℕ → List (List ℕ) → List (List ℕ)
+  fitted_row column [] = []
+  fitted_row column (text ∷ texts) = fitted_at column text ∷ fitted_row (column + 1) texts
+
+  -- and of rows
+  abbrev pub fitted_rows : List (List (List ℕ)) → List (List (List ℕ))
+  fitted_rows rows = map (fitted_row 0) rows
 
   -- the table with all its texts fitted, which keeps no sizes
   abbrev pub with_fitted_texts : State → State

@@ -1,6 +1,6 @@
 //! What a table looks like before it is made narrower.
 ghost use Rattle.std.specs.Prelude.{◌≡◌, [], IfErr, IfOk, OnOk};
-ghost use Rattle.basinmug_input.specs.Fields.Fields.{field_rows};
+ghost use Rattle.basinmug_cells.specs.Views.{view_rows};
 ghost use Rattle.basinmug_run.specs.Picture.Known.{AreKnown, AreNeedsFor};
 ghost use Rattle.basinmug_run.specs.Picture.Names.{IsFirstMissing};
 ghost use Rattle.basinmug_run.specs.Picture.Pictures.{asked_settings, missing_of};
@@ -10,8 +10,8 @@ use crate::picture::facts::{ColumnFacts, facts_for};
 use crate::picture::fault::PrintFault;
 use crate::picture::rows::header_of;
 use crate::picture::settings::settings_of;
+use basinmug_cells::RowsView;
 use basinmug_columns::Need;
-use basinmug_input::fields::Field;
 use std::alloc::Global;
 use tabled::Setting;
 
@@ -27,15 +27,15 @@ pub(crate) struct Appearance {
 /// first name that the header does not have, and as `Memory` where allocation fails.
 pub(crate) fn appearance_of(
     alloc: Global,
-    rows: &[Vec<Field<'_>>],
+    rows: RowsView<'_>,
     options: &Options,
     known: Option<ColumnFacts>,
 ) -> Result<Appearance, PrintFault>
-    requires { AreKnown options.now.header (field_rows rows.now) known }
-    ensures settings { IfOk result (λ it. it.settings.items ≡ asked_settings options.now (field_rows rows.now)) }
-    ensures needs { IfOk result (λ it. AreNeedsFor options.now (field_rows rows.now) it.needs.items) }
-    ensures named { OnOk result (missing_of options.now (field_rows rows.now) ≡ []) }
-    ensures refused { IfErr result (IsFirstMissing (missing_of options.now (field_rows rows.now))) }
+    requires { AreKnown options.now.header (view_rows rows) known }
+    ensures settings { IfOk result (λ it. it.settings.items ≡ asked_settings options.now (view_rows rows.entry)) }
+    ensures needs { IfOk result (λ it. AreNeedsFor options.now (view_rows rows.entry) it.needs.items) }
+    ensures named { OnOk result (missing_of options.now (view_rows rows.entry) ≡ []) }
+    ensures refused { IfErr result (IsFirstMissing (missing_of options.now (view_rows rows.entry))) }
 {
     let header = header_of(options.header, rows);
     let facts = facts_for(alloc, rows, options, known)?;

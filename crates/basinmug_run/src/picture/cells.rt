@@ -1,29 +1,26 @@
 //! The rows as cells of a table.
-ghost use Rattle.std.specs.Prelude.{◌≡◌, ◌+◌, IfOk, map, min, replicate};
-ghost use Rattle.basinmug_input.specs.Fields.Fields.{field_rows, field_text};
-ghost use Rattle.basinmug_columns.specs.Fitting.Fitting.{ellipsis};
+ghost use Rattle.std.specs.Prelude.{◌≡◌, ◌+◌, IfOk, map, min};
 ghost use Rattle.basinmug_columns.specs.Markdown.Documents.{with_header};
 ghost use Rattle.basinmug_columns.specs.Markdown.Escapes.{in_markdown};
 ghost use Rattle.basinmug_run.specs.Picture.Rows.{cells_of, header_rows, marked_rows};
 
 use crate::picture::rows::{header_rows, is_markdown};
+use basinmug_cells::{Rows, longest, rows_of_texts, texts_of};
 use basinmug_columns::RowsShown;
 use basinmug_columns::markdown::markdown_rows;
-use basinmug_input::fields::{Field, fields_of, texts_of};
 use program_options::basinmug::LineStyle;
 use std::alloc::{AllocError, Global};
-use tabled_text::longest_row;
 
 /// The rows as cells of a table of this style, which have a header of their own or none: where rows are left out between
 /// them is a row of ellipses; those of a document are escaped, and get a header. Fails only where allocation fails.
 pub(crate) fn cells_of<'a>(
     alloc: Global,
-    rows: Vec<Vec<Field<'a>>>,
+    rows: Rows<'a>,
     line_style: LineStyle,
     has_header: bool,
     shown: RowsShown,
-) -> Result<Vec<Vec<Field<'a>>>, AllocError>
-    ensures { IfOk result (λ cells. field_rows cells.items ≡ cells_of line_style has_header shown (field_rows rows.entry.items)) }
+) -> Result<Rows<'a>, AllocError>
+    ensures { IfOk result (λ cells. cells.rows ≡ cells_of line_style has_header shown rows.entry.rows) }
 {
     let marked = marked_rows(alloc, rows, has_header, shown)?;
     if is_markdown(line_style) {
@@ -36,11 +33,11 @@ pub(crate) fn cells_of<'a>(
 // The rows, and where some are left out between them, a row of ellipses in their place.
 fn marked_rows<'a>(
     alloc: Global,
-    rows: Vec<Vec<Field<'a>>>,
+    rows: Rows<'a>,
     has_header: bool,
     shown: RowsShown,
-) -> Result<Vec<Vec<Field<'a>>>, AllocError>
-    ensures { IfOk result (λ marked. field_rows marked.items ≡ marked_rows has_header shown (field_rows rows.entry.items)) }
+) -> Result<Rows<'a>, AllocError>
+    ensures { IfOk result (λ marked. marked.rows ≡ marked_rows has_header shown rows.entry.rows) }
 {
     match shown {
         RowsShown::Between { first, .. } => with_mark(alloc, rows, has_header, first),
@@ -51,19 +48,15 @@ fn marked_rows<'a>(
 // The rows with a row of ellipses after the header and the first records.
 fn with_mark<'a>(
     alloc: Global,
-    rows: Vec<Vec<Field<'a>>>,
+    rows: Rows<'a>,
     has_header: bool,
     first: usize,
-) -> Result<Vec<Vec<Field<'a>>>, AllocError>
-    ensures { IfOk result (λ marked. field_rows marked.items ≡ marked_rows has_header (RowsShown.Between first 0) (field_rows rows.entry.items)) }
+) -> Result<Rows<'a>, AllocError>
+    ensures { IfOk result (λ marked. marked.rows ≡ marked_rows has_header (RowsShown.Between first 0) rows.entry.rows) }
 {
-    let mut rows = rows;
-    let texts = rows.as_slice();
-    let longest = longest_row(texts);
-    let mark = mark_row(alloc, longest)?;
+    let columns = longest(rows.view());
     let place = place_in(rows.len(), has_header, first);
-    rows.insert(place, mark)?;
-    Ok(rows)
+    rows.with_row(alloc, place, columns, "…")
 }
 
 // The place after the header and the first records, in so many rows.
@@ -74,26 +67,16 @@ fn place_in(rows: usize, has_header: bool, first: usize) -> usize
     header + first.min(rows - header)
 }
 
-// A row of so many ellipses.
-fn mark_row<'a>(alloc: Global, columns: usize) -> Result<Vec<Field<'a>>, AllocError>
-    ensures { IfOk result (λ row. map field_text row.items ≡ replicate columns ellipsis) }
-{
-    let mut row = Vec::with_capacity(alloc, columns)?;
-    for _column in 0..columns {
-        row.push(Field::own(alloc, String::from_str(alloc, "…")?)?)?;
-    }
-    Ok(row)
-}
-
 // The rows as cells of a document, each with a text of its own.
 fn markdown_fields<'a>(
     alloc: Global,
-    rows: Vec<Vec<Field<'a>>>,
+    rows: Rows<'a>,
     has_header: bool,
-) -> Result<Vec<Vec<Field<'a>>>, AllocError>
-    ensures { IfOk result (λ cells. field_rows cells.items ≡ with_header has_header (map (map in_markdown) (field_rows rows.entry.items))) }
+) -> Result<Rows<'a>, AllocError>
+    ensures { IfOk result (λ cells. cells.rows ≡ with_header has_header (map (map in_markdown) rows.entry.rows)) }
 {
-    let texts = texts_of(alloc, rows)?;
+    let texts = texts_of(alloc, rows.view())?;
+    drop(rows);
     let cells = markdown_rows(alloc, texts, has_header)?;
-    fields_of(alloc, cells)
+    rows_of_texts(alloc, cells)
 }

@@ -1,17 +1,16 @@
 //! What is known of the columns of rows.
 ghost use Rattle.std.specs.Prelude.{◌≡◌, IfOk};
-ghost use Rattle.basinmug_input.specs.Fields.Fields.{field_rows};
+ghost use Rattle.basinmug_cells.specs.Views.{view_rows};
 ghost use Rattle.basinmug_run.specs.Picture.Known.{AreFacts, AreKnown, AreNeedsFor};
 ghost use Rattle.basinmug_run.specs.Picture.Pictures.{numeric_of};
 
 use crate::options::Options;
 use crate::picture::narrowing::narrowed_to;
 use crate::picture::rows::{header_of, records_of};
+use basinmug_cells::{RowsView, longest};
 use basinmug_columns::numbers::numeric_columns;
 use basinmug_columns::{Need, needs_of};
-use basinmug_input::fields::Field;
 use std::alloc::{AllocError, Global};
-use tabled_text::longest_row;
 
 /// What is known of the columns of rows.
 #[derive(Drop)]
@@ -27,11 +26,11 @@ pub(crate) struct ColumnFacts {
 pub(crate) fn known_or_found(
     alloc: Global,
     header: bool,
-    rows: &[Vec<Field<'_>>],
+    rows: RowsView<'_>,
     known: Option<ColumnFacts>,
 ) -> Result<ColumnFacts, AllocError>
-    requires { AreKnown header (field_rows rows.now) known }
-    ensures { IfOk result (AreFacts header (field_rows rows.now)) }
+    requires { AreKnown header (view_rows rows) known }
+    ensures { IfOk result (AreFacts header (view_rows rows.entry)) }
 {
     match known {
         Some(facts) => Ok(facts),
@@ -42,13 +41,13 @@ pub(crate) fn known_or_found(
 /// The same, but what the columns need only where the table may be made narrower.
 pub(crate) fn facts_for(
     alloc: Global,
-    rows: &[Vec<Field<'_>>],
+    rows: RowsView<'_>,
     options: &Options,
     known: Option<ColumnFacts>,
 ) -> Result<ColumnFacts, AllocError>
-    requires { AreKnown options.now.header (field_rows rows.now) known }
-    ensures numeric { IfOk result (λ facts. facts.numeric.items ≡ numeric_of options.now.header (field_rows rows.now)) }
-    ensures needs { IfOk result (λ facts. AreNeedsFor options.now (field_rows rows.now) facts.needs.items) }
+    requires { AreKnown options.now.header (view_rows rows) known }
+    ensures numeric { IfOk result (λ facts. facts.numeric.items ≡ numeric_of options.now.header (view_rows rows.entry)) }
+    ensures needs { IfOk result (λ facts. AreNeedsFor options.now (view_rows rows.entry) facts.needs.items) }
 {
     match narrowed_to(options) {
         Some(_) => known_or_found(alloc, options.header, rows, known),
@@ -61,8 +60,8 @@ pub(crate) fn facts_for(
 }
 
 // What is known of the columns.
-fn facts_of(alloc: Global, header: bool, rows: &[Vec<Field<'_>>]) -> Result<ColumnFacts, AllocError>
-    ensures { IfOk result (AreFacts header (field_rows rows.now)) }
+fn facts_of(alloc: Global, header: bool, rows: RowsView<'_>) -> Result<ColumnFacts, AllocError>
+    ensures { IfOk result (AreFacts header (view_rows rows.entry)) }
 {
     let names = header_of(header, rows);
     let records = records_of(header, rows);
@@ -73,10 +72,9 @@ fn facts_of(alloc: Global, header: bool, rows: &[Vec<Field<'_>>]) -> Result<Colu
 }
 
 // Whether each of them is of numbers.
-fn numeric_in(alloc: Global, header: bool, rows: &[Vec<Field<'_>>]) -> Result<Vec<bool>, AllocError>
-    ensures { IfOk result (λ numeric. numeric.items ≡ numeric_of header (field_rows rows.now)) }
+fn numeric_in(alloc: Global, header: bool, rows: RowsView<'_>) -> Result<Vec<bool>, AllocError>
+    ensures { IfOk result (λ numeric. numeric.items ≡ numeric_of header (view_rows rows.entry)) }
 {
     let records = records_of(header, rows);
-    let longest = longest_row(rows);
-    numeric_columns(alloc, records, longest)
+    numeric_columns(alloc, records, longest(rows))
 }

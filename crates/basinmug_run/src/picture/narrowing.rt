@@ -1,10 +1,9 @@
 //! A table that is made narrower.
 ghost use Rattle.std.specs.Prelude.{◌≡◌, ◌++◌, ◌⊎◌, false, nat_lt, IfErr, IfOk, MatchOption, OnOk};
 ghost use Rattle.grid_config_values.specs.declared.fault.Fault.TheVariants.{Memory};
-ghost use Rattle.tabled.specs.Tables.{state_of};
+ghost use Rattle.basinmug_run.specs.Picture.TableRows.{state_of};
 ghost use Rattle.tabled.specs.Totals.{drawn_width};
-ghost use Rattle.tabled_list.specs.Lists.{LeadsThrough};
-ghost use Rattle.basinmug_input.specs.Fields.Fields.{field_text};
+ghost use Rattle.tabled_list.specs.Lists.{AreSetters, LeadsThrough};
 ghost use Rattle.basinmug_run.specs.Picture.Fitting.{trimmed_if, trims, with_fitted_texts};
 ghost use Rattle.basinmug_run.specs.Picture.Narrowing.{IsNotNarrowed, IsRefusedIn, FitsTexts};
 ghost use Rattle.basinmug_run.specs.Picture.Pictures.{is_wider, narrowed_to};
@@ -12,26 +11,26 @@ ghost use Rattle.basinmug_run.specs.Picture.Pictures.{is_wider, narrowed_to};
 use crate::options::Options;
 use crate::picture::fitting::{Fitting, fit_texts, size_at};
 use crate::picture::rows::is_markdown;
+use crate::picture::table_rows::TableRows;
 use basinmug_columns::{Need, shrink_columns};
-use basinmug_input::fields::Field;
 use std::alloc::{AllocError, Global};
-use tabled::{Choice, Entity, Fault, Setting, Table};
+use tabled::{Choice, Entity, Fault, Setting, TableOf};
 
 /// Makes a table narrower where a width is requested; a document keeps its own. Returns whether it is wider than
 /// requested.
 pub(crate) fn narrow_if_asked(
     alloc: Global,
-    table: &mut Table<Field<'_>>,
+    table: &mut TableOf<TableRows<'_>>,
     needs: &[Need],
     options: &Options,
 ) -> Result<bool, Fault>
-    ensures narrowed { OnOk result (MatchOption (narrowed_to options.now) (state_of field_text table.new ≡ state_of field_text table.old)
-        (λ width. FitsTexts options.now.truncate options.now.priority needs.now width (state_of field_text table.old)
-        (state_of field_text table.new))) }
-    ensures wider { IfOk result (λ wider. wider ≡ is_wider options.now.width (state_of field_text table.new)) }
+    ensures narrowed { OnOk result (MatchOption (narrowed_to options.now) (state_of table.new ≡ state_of table.old)
+        (λ width. FitsTexts options.now.truncate options.now.priority needs.now width (state_of table.old)
+        (state_of table.new))) }
+    ensures wider { IfOk result (λ wider. wider ≡ is_wider options.now.width (state_of table.new)) }
     ensures refused { IfErr result (λ fault. (fault ≡ Memory)
         ⊎ MatchOption (narrowed_to options.now) ⊥
-        (λ width. IsNotNarrowed options.now.truncate options.now.priority needs.now width (state_of field_text table.old) fault)) }
+        (λ width. IsNotNarrowed options.now.truncate options.now.priority needs.now width (state_of table.old) fault)) }
 {
     match narrowed_to(options) {
         None => is_wider(table, options.width),
@@ -70,13 +69,13 @@ struct Narrowing {
 // Makes a table as narrow as is requested, or as far as its columns give. Returns whether it is wider than requested.
 fn narrow(
     alloc: Global,
-    table: &mut Table<Field<'_>>,
+    table: &mut TableOf<TableRows<'_>>,
     needs: &[Need],
     asked: Narrowing,
 ) -> Result<bool, Fault>
-    ensures narrowed { OnOk result (FitsTexts asked.truncate asked.priority needs.now asked.width (state_of field_text table.old) (state_of field_text table.new)) }
-    ensures wider { IfOk result (λ wider. wider ≡ nat_lt asked.width (drawn_width (state_of field_text table.new))) }
-    ensures refused { IfErr result (λ fault. (fault ≡ Memory) ⊎ IsNotNarrowed asked.truncate asked.priority needs.now asked.width (state_of field_text table.old) fault) }
+    ensures narrowed { OnOk result (FitsTexts asked.truncate asked.priority needs.now asked.width (state_of table.old) (state_of table.new)) }
+    ensures wider { IfOk result (λ wider. wider ≡ nat_lt asked.width (drawn_width (state_of table.new))) }
+    ensures refused { IfErr result (λ fault. (fault ≡ Memory) ⊎ IsNotNarrowed asked.truncate asked.priority needs.now asked.width (state_of table.old) fault) }
 {
     let total = table.total_width()?;
     if total <= asked.width {
@@ -104,13 +103,13 @@ fn narrow(
 // Fits the texts of a table to the widths that its columns get, and trims their lines.
 fn fit_columns(
     alloc: Global,
-    table: &mut Table<Field<'_>>,
+    table: &mut TableOf<TableRows<'_>>,
     fitting: &Fitting<'_>,
 ) -> Result<(), Fault>
     ensures fitted { OnOk result (LeadsThrough (trims fitting.now.truncate fitting.now.widths.now fitting.now.rooms.now)
-        (with_fitted_texts fitting.now.truncate fitting.now.widths.now fitting.now.rooms.now (state_of field_text table.old)) (state_of field_text table.new)) }
+        (with_fitted_texts fitting.now.truncate fitting.now.widths.now fitting.now.rooms.now (state_of table.old)) (state_of table.new)) }
     ensures refused { IfErr result (λ fault. (fault ≡ Memory) ⊎ IsRefusedIn (trims fitting.now.truncate fitting.now.widths.now fitting.now.rooms.now)
-        (with_fitted_texts fitting.now.truncate fitting.now.widths.now fitting.now.rooms.now (state_of field_text table.old)) fault) }
+        (with_fitted_texts fitting.now.truncate fitting.now.widths.now fitting.now.rooms.now (state_of table.old)) fault) }
 {
     let settings = trims(alloc, fitting)?;
     fit_texts(alloc, table, fitting)?;
@@ -119,19 +118,23 @@ fn fit_columns(
 }
 
 /// Runs settings on a table. Refused as the first of them that is.
-pub(crate) fn run_settings(table: &mut Table<Field<'_>>, settings: &[Setting]) -> Result<(), Fault>
-    ensures run { OnOk result (LeadsThrough settings.now (state_of field_text table.old) (state_of field_text table.new)) }
-    ensures refused { IfErr result (IsRefusedIn settings.now (state_of field_text table.old)) }
+pub(crate) fn run_settings(
+    table: &mut TableOf<TableRows<'_>>,
+    settings: &[Setting],
+) -> Result<(), Fault>
+    requires { AreSetters settings.now }
+    ensures run { OnOk result (LeadsThrough settings.now (state_of table.old) (state_of table.new)) }
+    ensures refused { IfErr result (IsRefusedIn settings.now (state_of table.old)) }
 {
-    match table.with_list(settings) {
+    match table.with_setters(settings) {
         Ok(()) => Ok(()),
         Err((_, fault)) => Err(fault),
     }
 }
 
 // Whether a table is wider than is requested.
-fn is_wider(table: &Table<Field<'_>>, asked: Option<usize>) -> Result<bool, Fault>
-    ensures wider { IfOk result (λ wider. wider ≡ is_wider asked (state_of field_text table.now)) }
+fn is_wider(table: &TableOf<TableRows<'_>>, asked: Option<usize>) -> Result<bool, Fault>
+    ensures wider { IfOk result (λ wider. wider ≡ is_wider asked (state_of table.now)) }
     ensures refused { IfErr result (λ fault. fault ≡ Memory) }
 {
     match asked {
@@ -141,8 +144,8 @@ fn is_wider(table: &Table<Field<'_>>, asked: Option<usize>) -> Result<bool, Faul
 }
 
 // Whether a table is wider than this.
-fn is_wider_than(table: &Table<Field<'_>>, width: usize) -> Result<bool, Fault>
-    ensures wider { IfOk result (λ wider. wider ≡ nat_lt width (drawn_width (state_of field_text table.now))) }
+fn is_wider_than(table: &TableOf<TableRows<'_>>, width: usize) -> Result<bool, Fault>
+    ensures wider { IfOk result (λ wider. wider ≡ nat_lt width (drawn_width (state_of table.now))) }
     ensures refused { IfErr result (λ fault. fault ≡ Memory) }
 {
     match table.total_width() {

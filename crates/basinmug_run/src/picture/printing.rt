@@ -1,10 +1,10 @@
 //! A picture that is printed.
 ghost use Rattle.std.specs.Prelude.{◌≡◌, ◌⊎◌, ◌++◌, IfErr, IfOk, IsErrOf, OnErr, OnOk};
 ghost use Rattle.grid_config_values.specs.declared.fault.Fault.TheVariants.{Memory};
-ghost use Rattle.tabled.specs.Tables.{state_of};
+ghost use Rattle.tabled_list.specs.Lists.{AreSetters};
+ghost use Rattle.basinmug_run.specs.Picture.TableRows.{state_of};
 ghost use Rattle.tabled.specs.Writing.{FitsOrIsRefused, IsBuilt, chosen_lines};
 ghost use Rattle.tabled_output.specs.Counts.{WritesUntil, inner_of};
-ghost use Rattle.basinmug_input.specs.Fields.Fields.{field_rows, field_text};
 ghost use Rattle.basinmug_run.specs.Picture.Known.{AreKnown};
 ghost use Rattle.basinmug_run.specs.Picture.Lines.{picture_text};
 ghost use Rattle.basinmug_run.specs.Picture.Pictures.{IsMade, IsNotMade, is_wider};
@@ -20,12 +20,20 @@ use crate::picture::fault::PrintFault;
 use crate::picture::lines::{RuledLines, Shown, below};
 use crate::picture::narrowing::{narrow_if_asked, run_settings};
 use crate::picture::rows::is_markdown;
-use basinmug_input::fields::Field;
+use crate::picture::table_rows::TableRows;
+use basinmug_cells::Rows;
 use program_options::basinmug::LineStyle;
 use std::alloc::Global;
 use std::io::Write;
-use tabled::{BuildFault, Counted, Fault, LineChoice, Table};
+use tabled::{BuildFault, Counted, Fault, LineChoice, TableOf};
 use tabled_output::write_piece;
+
+/// At most so many bytes of lines are held before they are written: more than what a program's own buffer holds, which they
+/// pass by.
+const OUTPUT_PIECE: usize = 81920;
+
+/// Of a table of few rows, so many for each, so that a small one takes no more memory than it needs.
+const ROW_PIECE: usize = 64;
 
 /// What there is to say of a picture that was printed.
 #[derive(Clone, Copy, Debug, PartialEq, Eq)]
@@ -42,15 +50,15 @@ pub struct Printed {
 /// written does; nothing is written of a table that is not made or doesn't fit. Nothing is flushed.
 pub fn print<W: Write>(
     alloc: Global,
-    rows: Vec<Vec<Field<'_>>>,
+    rows: Rows<'_>,
     options: &Options,
     writer: &mut Counted<W>,
 ) -> Result<Printed, PrintFault>
-    ensures printed { IfOk result (λ printed. Prints options.now (field_rows rows.entry.items) printed.wider (W.contents (inner_of writer.old)) (W.contents (inner_of writer.new))) }
+    ensures printed { IfOk result (λ printed. Prints options.now rows.entry.rows printed.wider (W.contents (inner_of writer.old)) (W.contents (inner_of writer.new))) }
     ensures front { OnErr result ((writer.new ≡ writer.old) ⊎
-        PrintsFront options.now (field_rows rows.entry.items) (W.contents (inner_of writer.old)) (W.contents (inner_of writer.new))) }
+        PrintsFront options.now rows.entry.rows (W.contents (inner_of writer.old)) (W.contents (inner_of writer.new))) }
     ensures untouched { IfErr result (λ fault. IsWithoutText fault → writer.new ≡ writer.old) }
-    ensures refused { IfErr result (IsPictureFault options.now (field_rows rows.entry.items)) }
+    ensures refused { IfErr result (IsPictureFault options.now rows.entry.rows) }
     ensures writer { WritesUntil (IsErrOf result (PrintFault.Table BuildFault.Write)) (IsErrOf result (PrintFault.Table BuildFault.WriteZero)) writer.old writer.new }
 {
     let KeptRows { rows, shown, .. } = kept_of(rows, options);
@@ -65,22 +73,22 @@ pub fn print<W: Write>(
 /// is not found again.
 pub(crate) fn print_shown<W: Write>(
     alloc: Global,
-    rows: Vec<Vec<Field<'_>>>,
+    rows: Rows<'_>,
     options: &Options,
     shown: Shown,
     known: Option<ColumnFacts>,
     writer: &mut Counted<W>,
 ) -> Result<Printed, PrintFault>
-    requires { AreKnown options.now.header (field_rows rows.items) known }
-    ensures printed { IfOk result (λ printed. PrintsShown options.now shown.rows (field_rows rows.entry.items) shown.columns printed.wider (W.contents (inner_of writer.old)) (W.contents (inner_of writer.new))) }
+    requires { AreKnown options.now.header rows.rows known }
+    ensures printed { IfOk result (λ printed. PrintsShown options.now shown.rows rows.entry.rows shown.columns printed.wider (W.contents (inner_of writer.old)) (W.contents (inner_of writer.new))) }
     ensures front { OnErr result ((writer.new ≡ writer.old) ⊎
-        PrintsShownFront options.now shown.rows (field_rows rows.entry.items) shown.columns (W.contents (inner_of writer.old)) (W.contents (inner_of writer.new))) }
+        PrintsShownFront options.now shown.rows rows.entry.rows shown.columns (W.contents (inner_of writer.old)) (W.contents (inner_of writer.new))) }
     ensures untouched { IfErr result (λ fault. IsWithoutText fault → writer.new ≡ writer.old) }
-    ensures refused { IfErr result (IsShownFault options.now shown.rows (field_rows rows.entry.items)) }
+    ensures refused { IfErr result (IsShownFault options.now shown.rows rows.entry.rows) }
     ensures writer { WritesUntil (IsErrOf result (PrintFault.Table BuildFault.Write)) (IsErrOf result (PrintFault.Table BuildFault.WriteZero)) writer.old writer.new }
 {
     let more = below(alloc, options.line_style, shown)?;
-    let texts = rows.as_slice();
+    let texts = rows.view();
     let appearance = appearance_of(alloc, texts, options, known)?;
     let cells = cells_of(alloc, rows, options.line_style, options.header, shown.rows)?;
     let lines = RuledLines {
@@ -88,7 +96,7 @@ pub(crate) fn print_shown<W: Write>(
         header: options.header,
         rows: cells.len(),
     };
-    let mut table = Table::from_cells(alloc, cells)?;
+    let mut table = TableOf::new(alloc, TableRows::new(cells));
     let ending = more.as_str();
     print_table(
         alloc,
@@ -104,25 +112,26 @@ pub(crate) fn print_shown<W: Write>(
 // Prints a table: its settings, its width, its lines in their style, and then a text.
 fn print_table<W: Write>(
     alloc: Global,
-    table: &mut Table<Field<'_>>,
+    table: &mut TableOf<TableRows<'_>>,
     appearance: &Appearance,
     options: &Options,
     lines: &RuledLines,
     more: &str,
     writer: &mut Counted<W>,
 ) -> Result<Printed, PrintFault>
+    requires { AreSetters appearance.now.settings.items }
     ensures printed { IfOk result (λ printed. PrintsTable
-        (IsMade options.now appearance.now.settings.items appearance.now.needs.items (state_of field_text table.old))
+        (IsMade options.now appearance.now.settings.items appearance.now.needs.items (state_of table.old))
         (picture_text options.now.line_style lines.now.rules lines.now.header lines.now.rows more.now) options.now.width
         printed.wider (W.contents (inner_of writer.old)) (W.contents (inner_of writer.new))) }
     ensures front { OnErr result ((writer.new ≡ writer.old) ⊎ PrintsTableFront
-        (IsMade options.now appearance.now.settings.items appearance.now.needs.items (state_of field_text table.old))
+        (IsMade options.now appearance.now.settings.items appearance.now.needs.items (state_of table.old))
         (picture_text options.now.line_style lines.now.rules lines.now.header lines.now.rows more.now)
         (W.contents (inner_of writer.old)) (W.contents (inner_of writer.new))) }
     ensures untouched { IfErr result (λ fault. IsWithoutText fault → writer.new ≡ writer.old) }
     ensures refused { IfErr result (IsTableFault
-        (IsMade options.now appearance.now.settings.items appearance.now.needs.items (state_of field_text table.old))
-        (IsNotMade options.now appearance.now.settings.items appearance.now.needs.items (state_of field_text table.old))) }
+        (IsMade options.now appearance.now.settings.items appearance.now.needs.items (state_of table.old))
+        (IsNotMade options.now appearance.now.settings.items appearance.now.needs.items (state_of table.old))) }
     ensures writer { WritesUntil (IsErrOf result (PrintFault.Table BuildFault.Write)) (IsErrOf result (PrintFault.Table BuildFault.WriteZero)) writer.old writer.new }
 {
     let wider = make_table(alloc, table, appearance, options)?;
@@ -134,15 +143,16 @@ fn print_table<W: Write>(
 // requested.
 fn make_table(
     alloc: Global,
-    table: &mut Table<Field<'_>>,
+    table: &mut TableOf<TableRows<'_>>,
     appearance: &Appearance,
     options: &Options,
 ) -> Result<bool, Fault>
+    requires { AreSetters appearance.now.settings.items }
     ensures made { OnOk result (IsMade options.now appearance.now.settings.items appearance.now.needs.items
-        (state_of field_text table.old) (state_of field_text table.new)) }
-    ensures wider { IfOk result (λ wider. wider ≡ is_wider options.now.width (state_of field_text table.new)) }
+        (state_of table.old) (state_of table.new)) }
+    ensures wider { IfOk result (λ wider. wider ≡ is_wider options.now.width (state_of table.new)) }
     ensures refused { IfErr result (λ fault. (fault ≡ Memory) ⊎ IsNotMade options.now
-        appearance.now.settings.items appearance.now.needs.items (state_of field_text table.old) fault) }
+        appearance.now.settings.items appearance.now.needs.items (state_of table.old) fault) }
 {
     let list = appearance.settings.as_slice();
     run_settings(table, list)?;
@@ -153,16 +163,16 @@ fn make_table(
 // Writes the lines of a table in this style, and then a text.
 fn write_picture<W: Write>(
     alloc: Global,
-    table: &Table<Field<'_>>,
+    table: &TableOf<TableRows<'_>>,
     line_style: LineStyle,
     lines: &RuledLines,
     more: &str,
     writer: &mut Counted<W>,
 ) -> Result<(), BuildFault>
-    ensures built { IsBuilt W.contents (state_of field_text table.now)
-        (picture_text line_style lines.now.rules lines.now.header lines.now.rows more.now (state_of field_text table.now))
+    ensures built { IsBuilt W.contents (state_of table.now)
+        (picture_text line_style lines.now.rules lines.now.header lines.now.rows more.now (state_of table.now))
         result writer.old writer.new }
-    ensures table { FitsOrIsRefused (state_of field_text table.now) result }
+    ensures table { FitsOrIsRefused (state_of table.now) result }
 {
     if is_markdown(line_style) {
         write_document(alloc, table, more, writer)
@@ -173,15 +183,16 @@ fn write_picture<W: Write>(
 
 /// Writes the lines of a table that are chosen, and then a text. It fails as `build_lines` does.
 pub(crate) fn write_lines<W: Write, K: LineChoice>(
-    table: &Table<Field<'_>>,
+    table: &TableOf<TableRows<'_>>,
     choice: &K,
     more: &str,
     writer: &mut Counted<W>,
 ) -> Result<(), BuildFault>
-    ensures built { IsBuilt W.contents (state_of field_text table.now) (chosen_lines (K.chooses choice.now) (state_of field_text table.now) ++ more.now) result writer.old writer.new }
-    ensures table { FitsOrIsRefused (state_of field_text table.now) result }
+    ensures built { IsBuilt W.contents (state_of table.now) (chosen_lines (K.chooses choice.now) (state_of table.now) ++ more.now) result writer.old writer.new }
+    ensures table { FitsOrIsRefused (state_of table.now) result }
 {
-    table.build_lines(writer, choice)?;
+    let size = table.count_rows().saturating_mul(ROW_PIECE);
+    table.build_buffered_lines(writer, choice, size.min(OUTPUT_PIECE))?;
     write_piece(writer, more.as_bytes())?;
     Ok(())
 }

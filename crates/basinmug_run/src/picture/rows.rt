@@ -1,9 +1,9 @@
 //! The rows of a picture: a header, and records.
-ghost use Rattle.std.specs.Prelude.{◌≡◌, map};
-ghost use Rattle.grid_records_traits.specs.Sources.{texts_of_rows};
+ghost use Rattle.std.specs.Prelude.{◌≡◌};
+ghost use Rattle.basinmug_cells.specs.Views.{row_texts, view_rows};
 ghost use Rattle.basinmug_run.specs.Picture.Rows.{header_of, header_rows, is_markdown, records_of};
 
-use grid_records_traits::Cell;
+use basinmug_cells::{CellRows, Row, RowsView};
 use program_options::basinmug::LineStyle;
 
 /// Whether a style of lines is that of a table in a document.
@@ -27,27 +27,20 @@ pub(crate) fn header_rows(header: bool) -> usize
     if header { 1 } else { 0 }
 }
 
-/// The texts of the header, where there is one.
-pub(crate) fn header_of<C: Cell>(header: bool, rows: &[Vec<C>]) -> &[C]
-    ensures { map C.text result.now ≡ header_of header (texts_of_rows C.text rows.now) }
+/// The header, where there is one, and else a row without cells.
+pub(crate) fn header_of<'r>(header: bool, rows: RowsView<'r>) -> Row<'r>
+    ensures { row_texts result ≡ header_of header (view_rows rows.entry) }
 {
-    if !header {
-        return &[];
-    }
-    match rows.first() {
-        Some(row) => row.as_slice(),
-        None => &[],
+    if header {
+        rows.row(0)
+    } else {
+        rows.row(rows.len())
     }
 }
 
 /// The rows below the header.
-pub(crate) fn records_of<C: Cell>(header: bool, rows: &[Vec<C>]) -> &[Vec<C>]
-    ensures { texts_of_rows C.text result.now ≡ records_of header (texts_of_rows C.text rows.now) }
+pub(crate) fn records_of<'r>(header: bool, rows: RowsView<'r>) -> RowsView<'r>
+    ensures { view_rows result ≡ records_of header (view_rows rows.entry) }
 {
-    let from = header_rows(header);
-    if from <= rows.len() {
-        &rows[from..]
-    } else {
-        &[]
-    }
+    rows.between(header_rows(header), rows.len())
 }

@@ -1,7 +1,7 @@
 //! The settings of a table before it is made narrower.
 ghost use Rattle.std.specs.Prelude.{◌≡◌, ◌++◌, ◌∷◌, [], IfErr, IfOk, OnOk, map};
 ghost use Rattle.basinmug_columns.specs.Names.{number_of};
-ghost use Rattle.basinmug_input.specs.Fields.Fields.{field_text};
+ghost use Rattle.basinmug_cells.specs.Views.{row_texts};
 ghost use Rattle.basinmug_run.specs.Picture.Settings.{aligned_by, colored_by, settings_of, numbers_right, right_if};
 ghost use Rattle.basinmug_run.specs.Picture.Names.{IsFirstMissing, missing_by, missing_names};
 
@@ -9,8 +9,8 @@ use crate::columns::named_number;
 use crate::options::Options;
 use crate::picture::fault::PrintFault;
 use crate::picture::glyphs::glyphs_of;
+use basinmug_cells::Row;
 use basinmug_columns::NamedColumns;
-use basinmug_input::fields::Field;
 use grid_config::{ANSIBuf, AlignmentHorizontal};
 use program_options::basinmug::ColumnName;
 use std::alloc::{AllocError, Global};
@@ -20,13 +20,13 @@ use tabled::{Entity, Setting};
 /// first name that the header does not have, and as `Memory` where allocation fails.
 pub(crate) fn settings_of(
     alloc: Global,
-    header: &[Field<'_>],
+    header: Row<'_>,
     numeric: &[bool],
     options: &Options,
 ) -> Result<Vec<Setting>, PrintFault>
-    ensures settings { IfOk result (λ settings. settings.items ≡ settings_of options.now.line_style (map field_text header.now) numeric.now options.now.alignments.items options.now.colors.items) }
-    ensures named { OnOk result (missing_names (map field_text header.now) options.now.alignments.items ++ missing_names (map field_text header.now) options.now.colors.items ≡ []) }
-    ensures refused { IfErr result (IsFirstMissing (missing_names (map field_text header.now) options.now.alignments.items ++ missing_names (map field_text header.now) options.now.colors.items)) }
+    ensures settings { IfOk result (λ settings. settings.items ≡ settings_of options.now.line_style (row_texts header.entry) numeric.now options.now.alignments.items options.now.colors.items) }
+    ensures named { OnOk result (missing_names (row_texts header.entry) options.now.alignments.items ++ missing_names (row_texts header.entry) options.now.colors.items ≡ []) }
+    ensures refused { IfErr result (IsFirstMissing (missing_names (row_texts header.entry) options.now.alignments.items ++ missing_names (row_texts header.entry) options.now.colors.items)) }
 {
     let mut settings = Vec::new(alloc);
     settings.push(Setting::Borders(glyphs_of(options.line_style)))?;

@@ -1,13 +1,16 @@
--- The cells so far are read, and the others are in what is left.
-use Rattle.std.proofs.Common.{◌≡◌, ◌≤◌, drop, length, sum, take, vec_len}
+-- The cells so far are read, in rows, and the others are in what is left.
+use Rattle.std.proofs.Common.{◌≡◌, ◌≤◌, drop, length, map, sum, take}
+use Rattle.std.specs.List.{AllByRecursion}
+use Rattle.basinmug_bounded.proofs.OfCells.{AreInRows}
 use Rattle.basinmug_bounded.specs.Cells.{cells_in}
-use Rattle.basinmug_input.specs.Rows.{IsRowOf}
+use Rattle.basinmug_input.specs.Cleaning.{cleaned}
+use Rattle.basinmug_input.specs.Flaws.{IsReadableField}
 use Rattle.basinmug_bounded.proofs.cells.read_cells.Given as goal
 
-abbrev pub invariant-loop-count : goal.invariant-loop-count
-invariant-loop-count l = record {
-  read : IsRowOf l.escapes (take l.count-index (cells_in l.lengths l.bytes)) l.cells;
-  left : drop l.count-index (cells_in l.lengths l.bytes) ≡ cells_in (drop l.count-index l.lengths) l.rest;
-  enough : sum (drop l.count-index l.lengths) ≤ length l.rest;
-  many : vec_len l.cells ≡ l.count-index;
+abbrev pub invariant-loop-cell : goal.invariant-loop-cell
+invariant-loop-cell l = record {
+  readable : AllByRecursion (IsReadableField l.escapes) (take l.cell (cells_in l.lengths l.bytes));
+  in_rows : AreInRows l.per_record (map (cleaned l.escapes) (take l.cell (cells_in l.lengths l.bytes))) l.rows;
+  left : drop l.cell (cells_in l.lengths l.bytes) ≡ cells_in (drop l.cell l.lengths) l.rest;
+  enough : sum (drop l.cell l.lengths) ≤ length l.rest;
 }

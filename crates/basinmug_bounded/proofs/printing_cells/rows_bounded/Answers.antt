@@ -1,13 +1,12 @@
 use Rattle.std.proofs.Common.{◌∙◌, sym}
 use Rattle.basinmug_bounded.proofs.OfBounded.{has-run, name-stays}
 use Rattle.basinmug_bounded.specs.CellOutputs.{IsReadFault, PrintsRead}
-use Rattle.basinmug_input.specs.Fields.Fields.{field_rows}
 use Rattle.basinmug_bounded.proofs.printing_cells.rows_bounded.Goals as goal
 
 pub returns : goal.returns
 returns c =
     let options = c.args.options.now in
-    let rows = field_rows c.args.rows.items in
+    let rows = c.args.rows.rows in
     let before = c.new-writer in
     let ran = c.rows_to-outcome in
     let after = c.into_count-bytes.ensures in

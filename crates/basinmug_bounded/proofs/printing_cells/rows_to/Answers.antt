@@ -2,14 +2,13 @@ use Rattle.std.proofs.Common.{ap}
 use Rattle.basinmug_bounded.proofs.OfLent.{run-wrote}
 use Rattle.basinmug_bounded.proofs.OfRead.{read-alone, read-begun}
 use Rattle.basinmug_bounded.specs.CellOutputs.{IsReadFault}
-use Rattle.basinmug_input.specs.Fields.Fields.{field_rows}
 use Rattle.basinmug_run.specs.Runs.{PrintsRows, PrintsRowsFront}
 use Rattle.basinmug_bounded.proofs.printing_cells.rows_to.Goals as goal
 
 pub returns : goal.returns
 returns g c =
     let options = c.args.options.now in
-    let rows = field_rows c.args.rows.items in
+    let rows = c.args.rows.rows in
     let given = c.new-counted.ensures.inner in
     let ran = c.run_rows-outcome in
     run-wrote (PrintsRows options rows) (PrintsRowsFront options rows) (IsReadFault options rows) (read-alone options rows) (read-begun options rows)

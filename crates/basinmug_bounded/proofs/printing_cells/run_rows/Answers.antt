@@ -1,5 +1,4 @@
 use Rattle.basinmug_bounded.proofs.OfRead.{nothing-printed, read-fault}
-use Rattle.basinmug_input.specs.Fields.Fields.{field_rows}
 use Rattle.basinmug_run.proofs.PictureLemmas.Narrowed.{err-told, on-err}
 use Rattle.basinmug_run.specs.Faults.{of_print}
 use Rattle.basinmug_bounded.proofs.printing_cells.run_rows.Goals as goal
@@ -15,4 +14,4 @@ returns-in_err-printed-clause-untouched g c =
 pub returns-in_err-printed-clause-refused : goal.returns-in_err-printed-clause-refused
 returns-in_err-printed-clause-refused g c =
     let fault = c.in_err-printed.field-0.0 in
-    err-told c.from_residual.result (of_print fault) _ c.from_residual.ensures.1 (read-fault c.args.options.now (field_rows c.args.rows.items) fault c.in_err-printed.ensures.refused)
+    err-told c.from_residual.result (of_print fault) _ c.from_residual.ensures.1 (read-fault c.args.options.now c.args.rows.rows fault c.in_err-printed.ensures.refused)

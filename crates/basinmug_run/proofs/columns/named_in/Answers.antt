@@ -4,7 +4,7 @@ use Rattle.std.proofs.Math.Path.{fun_ext}
 use Rattle.grid_config.specs.Colors.{Color as CellColor}
 use Rattle.grid_config_values.specs.declared.alignment.AlignmentHorizontal.{AlignmentHorizontal}
 use Rattle.basinmug_columns.specs.Names.{column_number, number_of}
-use Rattle.basinmug_input.specs.Fields.Fields.{field_rows}
+use Rattle.basinmug_cells.specs.Views.{view_rows}
 use Rattle.program_options.specs.declared.basinmug.ColumnChoice.{ColumnChoice}
 use Rattle.program_options.specs.declared.basinmug.ColumnName.{ColumnName}
 use Rattle.basinmug_run.specs.Columns.{chosen_columns, given_for, last_for, number_in}
@@ -15,7 +15,7 @@ use Rattle.basinmug_run.proofs.columns.named_in.Goals as goal
 pub returns-in_err-columns-clause-refused : goal.returns-in_err-columns-clause-refused
 returns-in_err-columns-clause-refused c =
     let options = c.args.options.now in
-    let rows = field_rows c.args.rows.now in
+    let rows = view_rows c.args.rows in
     let look = number_of c.in_ok-named.named in
     let count = c.args.count in
     let is : look ≡ number_in options rows =
@@ -27,7 +27,7 @@ returns-in_err-columns-clause-refused c =
 pub returns-in_err-alignments-clause-refused : goal.returns-in_err-alignments-clause-refused
 returns-in_err-alignments-clause-refused c =
     let options = c.args.options.now in
-    let rows = field_rows c.args.rows.now in
+    let rows = view_rows c.args.rows in
     let look = number_of c.in_ok-named.named in
     let count = c.args.count in
     let is : look ≡ number_in options rows =
@@ -39,7 +39,7 @@ returns-in_err-alignments-clause-refused c =
 pub returns-in_err-colors-clause-refused : goal.returns-in_err-colors-clause-refused
 returns-in_err-colors-clause-refused c =
     let options = c.args.options.now in
-    let rows = field_rows c.args.rows.now in
+    let rows = view_rows c.args.rows in
     let look = number_of c.in_ok-named.named in
     let count = c.args.count in
     let is : look ≡ number_in options rows =
@@ -51,7 +51,7 @@ returns-in_err-colors-clause-refused c =
 pub returns-clause-columns : goal.returns-clause-columns
 returns-clause-columns c =
     let options = c.args.options.now in
-    let rows = field_rows c.args.rows.now in
+    let rows = view_rows c.args.rows in
     let look = number_of c.in_ok-named.named in
     let count = c.args.count in
     let is : look ≡ number_in options rows =
@@ -61,7 +61,7 @@ returns-clause-columns c =
 pub returns-clause-alignments : goal.returns-clause-alignments
 returns-clause-alignments c =
     let options = c.args.options.now in
-    let rows = field_rows c.args.rows.now in
+    let rows = view_rows c.args.rows in
     let look = number_of c.in_ok-named.named in
     let count = c.args.count in
     let is : look ≡ number_in options rows =
@@ -73,7 +73,7 @@ returns-clause-alignments c =
 pub returns-clause-colors : goal.returns-clause-colors
 returns-clause-colors c =
     let options = c.args.options.now in
-    let rows = field_rows c.args.rows.now in
+    let rows = view_rows c.args.rows in
     let look = number_of c.in_ok-named.named in
     let count = c.args.count in
     let is : look ≡ number_in options rows =
@@ -85,7 +85,7 @@ returns-clause-colors c =
 pub returns-clause-named : goal.returns-clause-named
 returns-clause-named c =
     let options = c.args.options.now in
-    let rows = field_rows c.args.rows.now in
+    let rows = view_rows c.args.rows in
     let look = number_of c.in_ok-named.named in
     let count = c.args.count in
     let is : look ≡ number_in options rows =

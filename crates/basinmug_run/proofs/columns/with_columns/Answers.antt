@@ -1,19 +1,32 @@
--- The fields of one row more.
-use Rattle.std.proofs.Common.{◌≡◌, ◌∙◌, ◌++◌, ◌∷◌, [], ap, ap₂, sym, List, ℕ, Vec, Global, map}
-use Rattle.std.specs.Vec.{vec_items}
-use Rattle.std.proofs.lemmas.List.{map-append}
-use Rattle.basinmug_input.specs.Fields.Fields.{field_rows, field_text}
-use Rattle.basinmug_input.specs.declared.fields.field.Field.{Field}
-use Rattle.basinmug_run.specs.Columns.{shown_row}
+-- A column that is shown is selected by its number, and an ellipsis is in place of one that is left out.
+use Rattle.std.proofs.Common.{◌≡◌, ◌∙◌, ap, ap₂, refl, ℕ, List, [], ◌∷◌, Option, map}
+use Rattle.std.proofs.lemmas.Result.{IfOk-weaker}
+use Rattle.basinmug_cells.specs.Held.{Held}
+use Rattle.basinmug_cells.specs.Selecting.{selected, selected_text}
+use Rattle.basinmug_columns.specs.Fitting.Fitting.{ellipsis}
+use Rattle.basinmug_columns.specs.declared.shown.ShownColumn.{ShownColumn}
+use Rattle.basinmug_columns.specs.declared.shown.ShownColumn.TheVariants.{Number, LeftOut}
+use Rattle.basinmug_run.specs.Columns.{number_if_shown, shown_field, shown_row, with_columns}
 use Rattle.basinmug_run.proofs.columns.with_columns.Goals as goal
 
-pub loop-row-preserved : goal.loop-row-preserved
-loop-row-preserved c =
+one : (row : List (List ℕ)) (column : ShownColumn) → selected_text ellipsis row (number_if_shown column) ≡ shown_field row column
+one row (Number number) = refl
+one row LeftOut = refl
+
+each : (row : List (List ℕ)) (shown : List ShownColumn) → selected (map number_if_shown shown) ellipsis row ≡ shown_row shown row
+each row [] = refl
+each row (column ∷ shown) = ap₂ (λ (text : List ℕ) (rest : List (List ℕ)). text ∷ rest) (one row column) (each row shown)
+
+all : (rows : List (List (List ℕ))) (shown : List ShownColumn) → map (selected (map number_if_shown shown) ellipsis) rows ≡ with_columns shown rows
+all [] shown = refl
+all (row ∷ rows) shown = ap₂ (λ (it : List (List ℕ)) (rest : List (List (List ℕ))). it ∷ rest) (each row shown) (all rows shown)
+
+pub returns : goal.returns
+returns c =
+    let rows = c.args.rows.rows in
     let shown = c.args.shown.now in
-    let texts_of : Vec Field Global → List (List ℕ) = λ row. map field_text (vec_items row) in
-    let row = c.in-Some.row in
-    let new = c.in_ok-shown_row.field-0 in
-    let fields : texts_of new ≡ shown_row shown (texts_of row) = c.in_ok-shown_row.ensures ∙ ap (λ (it : List Field). shown_row shown (map field_text it)) c.deref.ensures.value in
-    ap field_rows c.in_ok-push.ensures.items ∙ map-append texts_of c.loop-row.chosen.items (new ∷ [])
-    ∙ ap₂ (λ (old : List (List (List ℕ))) (one : List (List ℕ)). old ++ one ∷ []) c.loop-row.invariant fields
-    ∙ sym (ap (map (shown_row shown)) (map-append texts_of c.loop-row.yielded (row ∷ [])) ∙ map-append (shown_row shown) (map texts_of c.loop-row.yielded) (texts_of row ∷ []))
+    IfOk-weaker c.select.result _ _
+    (λ chosen is.
+    ap (λ (held : Held). held.rows) is
+    ∙ ap (λ (columns : List (Option ℕ)). map (selected columns ellipsis) rows) (c.deref.ensures.value ∙ c.in_ok-columns.ensures)
+    ∙ all rows shown) c.select.ensures

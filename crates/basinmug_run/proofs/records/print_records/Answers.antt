@@ -1,7 +1,7 @@
 -- The records of the chosen columns, and what comes of a refusal.
 use Rattle.std.proofs.Common.{◌≡◌, ◌∙◌, ap, inl, refl, subst, ℕ, List, []}
 use Rattle.tabled_output.specs.Counts.{inner_of}
-use Rattle.basinmug_input.specs.Fields.Fields.{field_rows}
+use Rattle.basinmug_cells.specs.Views.{view_rows}
 use Rattle.basinmug_columns.specs.declared.shown.ShownColumn.{ShownColumn}
 use Rattle.basinmug_run.specs.Columns.{columns_in, missing_of_columns, own_rows, rows_with}
 use Rattle.basinmug_run.specs.Kept.{kept_view}
@@ -24,11 +24,11 @@ returns-in_err-named-clause-refused g c =
     let kept = kept_view c.args.kept in
     let fault = c.in_err-named.field-0.0 in
     err-told c.from_residual.result fault _ c.from_residual.ensures.1
-    (records-fault options kept fault (subst (λ (it : List (List (List ℕ))). IsFirstMissing (missing_of_columns options kept.columns it) fault) (ap field_rows c.as_slice-texts.ensures.value) c.in_err-named.ensures.refused))
+    (records-fault options kept fault (subst (λ (it : List (List (List ℕ))). IsFirstMissing (missing_of_columns options kept.columns it) fault) (c.view-texts.ensures) c.in_err-named.ensures.refused))
 
 pub returns-in_err-named-clause-writer : goal.returns-in_err-named-clause-writer
 returns-in_err-named-clause-writer g c =
-    name-missing c.args.writer.now (missing_of_columns c.args.options.now c.args.kept.columns (field_rows c.as_slice-texts.result.now)) c.in_err-named.field-0.0 c.from_residual.result c.from_residual.ensures.1 c.in_err-named.ensures.refused
+    name-missing c.args.writer.now (missing_of_columns c.args.options.now c.args.kept.columns (view_rows c.view-texts.result)) c.in_err-named.field-0.0 c.from_residual.result c.from_residual.ensures.1 c.in_err-named.ensures.refused
 
 pub returns-clause-printed : goal.returns-clause-printed
 returns-clause-printed g c =
@@ -36,11 +36,11 @@ returns-clause-printed g c =
     let kept = kept_view c.args.kept in
     let old = g.W.Write.contents (inner_of c.args.writer.now) in
     let new = g.W.Write.contents (inner_of c.print_shown.new.writer) in
-    let given : field_rows c.as_slice-texts.result.now ≡ kept.rows = ap field_rows c.as_slice-texts.ensures.value in
+    let given : view_rows c.view-texts.result ≡ kept.rows = c.view-texts.ensures in
     let all_named : missing_kept options kept ≡ [] = subst (λ (it : List (List (List ℕ))). missing_of_columns options kept.columns it ≡ []) given c.in_ok-named.ensures.named in
     let columns : c.as_slice-columns.result.now ≡ columns_in options kept.rows = c.as_slice-columns.ensures.value ∙ c.in_ok-named.ensures.columns ∙ ap (columns_in options) given in
-    let texts : field_rows c.in_ok-chosen.chosen.items ≡ own_rows options kept.rows = c.in_ok-chosen.ensures ∙ ap (λ (it : List ShownColumn). rows_with options.columns.items it kept.rows) columns in
-    records-printed options kept all_named (field_rows c.in_ok-chosen.chosen.items) texts c.print_shown.result old new c.print_shown.ensures.printed
+    let texts : c.in_ok-chosen.chosen.rows ≡ own_rows options kept.rows = c.in_ok-chosen.ensures ∙ ap (λ (it : List ShownColumn). rows_with options.columns.items it kept.rows) columns in
+    records-printed options kept all_named c.in_ok-chosen.chosen.rows texts c.print_shown.result old new c.print_shown.ensures.printed
 
 pub returns-clause-front : goal.returns-clause-front
 returns-clause-front g c =
@@ -48,16 +48,16 @@ returns-clause-front g c =
     let kept = kept_view c.args.kept in
     let old = g.W.Write.contents (inner_of c.args.writer.now) in
     let new = g.W.Write.contents (inner_of c.print_shown.new.writer) in
-    let given : field_rows c.as_slice-texts.result.now ≡ kept.rows = ap field_rows c.as_slice-texts.ensures.value in
+    let given : view_rows c.view-texts.result ≡ kept.rows = c.view-texts.ensures in
     let all_named : missing_kept options kept ≡ [] = subst (λ (it : List (List (List ℕ))). missing_of_columns options kept.columns it ≡ []) given c.in_ok-named.ensures.named in
     let columns : c.as_slice-columns.result.now ≡ columns_in options kept.rows = c.as_slice-columns.ensures.value ∙ c.in_ok-named.ensures.columns ∙ ap (columns_in options) given in
-    let texts : field_rows c.in_ok-chosen.chosen.items ≡ own_rows options kept.rows = c.in_ok-chosen.ensures ∙ ap (λ (it : List ShownColumn). rows_with options.columns.items it kept.rows) columns in
-    records-front options kept all_named (field_rows c.in_ok-chosen.chosen.items) texts c.print_shown.result (c.print_shown.new.writer ≡ c.args.writer.now) old new c.print_shown.ensures.front
+    let texts : c.in_ok-chosen.chosen.rows ≡ own_rows options kept.rows = c.in_ok-chosen.ensures ∙ ap (λ (it : List ShownColumn). rows_with options.columns.items it kept.rows) columns in
+    records-front options kept all_named c.in_ok-chosen.chosen.rows texts c.print_shown.result (c.print_shown.new.writer ≡ c.args.writer.now) old new c.print_shown.ensures.front
 
 pub returns-clause-refused : goal.returns-clause-refused
 returns-clause-refused g c =
     let options = c.args.options.now in
     let kept = kept_view c.args.kept in
-    let given : field_rows c.as_slice-texts.result.now ≡ kept.rows = ap field_rows c.as_slice-texts.ensures.value in
+    let given : view_rows c.view-texts.result ≡ kept.rows = c.view-texts.ensures in
     let all_named : missing_kept options kept ≡ [] = subst (λ (it : List (List (List ℕ))). missing_of_columns options kept.columns it ≡ []) given c.in_ok-named.ensures.named in
     records-refused options kept all_named c.print_shown.result c.print_shown.ensures.refused

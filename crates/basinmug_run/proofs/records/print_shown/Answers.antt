@@ -3,7 +3,7 @@ use Rattle.std.proofs.Common.{◌≡◌, ap, inr, refl, subst, List, ℕ, map}
 use Rattle.std.specs.Io.KnownBytes.{Appends}
 use Rattle.tabled_output.specs.Counts.{inner_of}
 use Rattle.tabled_output.specs.Streams.{AppendsFront}
-use Rattle.basinmug_input.specs.Fields.Fields.{field_rows, field_text}
+use Rattle.basinmug_cells.specs.Views.{row_texts, view_rows}
 use Rattle.basinmug_expanded.proofs.Parts.{written-front, written-late, written-until, written-whole}
 use Rattle.basinmug_run.specs.Picture.Faults.{of_build}
 use Rattle.basinmug_run.proofs.PictureLemmas.Narrowed.{err-told, on-err}
@@ -14,10 +14,10 @@ use Rattle.basinmug_run.proofs.records.print_shown.Goals as goal
 pub returns-in_err-write_records-clause-front : goal.returns-in_err-write_records-clause-front
 returns-in_err-write_records-clause-front g c =
     let options = c.args.options.now in
-    let rows = field_rows c.args.rows.items in
-    let texts = field_rows c.as_slice-texts.result.now in
-    let given : texts ≡ rows = ap field_rows c.as_slice-texts.ensures.value in
-    let same = same-text options c.args.shown rows texts given (map field_text c.header_of-header.result.now) (field_rows c.records_of-records.result.now) c.header_of-header.ensures c.records_of-records.ensures in
+    let rows = c.args.rows.rows in
+    let texts = view_rows c.view-texts.result in
+    let given : texts ≡ rows = c.view-texts.ensures in
+    let same = same-text options c.args.shown rows texts given (row_texts c.header_of-header.result) (view_rows c.records_of-records.result) c.header_of-header.ensures c.records_of-records.ensures in
     let old = g.W.Write.contents (inner_of c.args.writer.now) in
     let new = g.W.Write.contents (inner_of c.write_records.new.writer) in
     let front = refused-so c.write_records.result c.in_err-write_records.field-0.0 _ c.in_err-write_records.was (written-front g.W.Write.contents _ c.args.writer.now c.write_records.new.writer c.write_records.result c.write_records.ensures) in
@@ -43,10 +43,10 @@ returns-in_err-write_records-clause-writer g c =
 pub returns-clause-printed : goal.returns-clause-printed
 returns-clause-printed g c =
     let options = c.args.options.now in
-    let rows = field_rows c.args.rows.items in
-    let texts = field_rows c.as_slice-texts.result.now in
-    let given : texts ≡ rows = ap field_rows c.as_slice-texts.ensures.value in
-    let same = same-text options c.args.shown rows texts given (map field_text c.header_of-header.result.now) (field_rows c.records_of-records.result.now) c.header_of-header.ensures c.records_of-records.ensures in
+    let rows = c.args.rows.rows in
+    let texts = view_rows c.view-texts.result in
+    let given : texts ≡ rows = c.view-texts.ensures in
+    let same = same-text options c.args.shown rows texts given (row_texts c.header_of-header.result) (view_rows c.records_of-records.result) c.header_of-header.ensures c.records_of-records.ensures in
     let old = g.W.Write.contents (inner_of c.args.writer.now) in
     let new = g.W.Write.contents (inner_of c.write_records.new.writer) in
     let whole = accepted-so c.write_records.result _ _ c.in_ok-write_records.was (written-whole g.W.Write.contents _ c.args.writer.now c.write_records.new.writer c.write_records.result c.write_records.ensures) in

@@ -1,7 +1,6 @@
 -- All columns, or those that the table has.
 use Rattle.std.proofs.Common.{◌≡◌, ◌∙◌, ap, inl, refl, subst, sym, ℕ, List, None, true, false}
 use Rattle.tabled_output.specs.Counts.{inner_of}
-use Rattle.basinmug_input.specs.Fields.Fields.{field_rows}
 use Rattle.basinmug_run.specs.Columns.{shows_whole_rows}
 use Rattle.basinmug_run.specs.Kept.{kept_view}
 use Rattle.basinmug_run.specs.Picture.Known.{AreKnown}
@@ -15,11 +14,11 @@ use Rattle.basinmug_run.proofs.running.print_as_table.Goals as goal
 
 pub print_shown-requires : goal.print_shown-requires
 print_shown-requires g c =
-    subst (λ (it : List (List (List ℕ))). AreKnown c.args.options.now.header it c.in_ok-whole.whole.facts) (ap field_rows c.as_slice-texts.ensures.value) c.in_ok-whole.ensures.known
+    subst (λ (it : List (List (List ℕ))). AreKnown c.args.options.now.header it c.in_ok-whole.whole.facts) (c.view-texts.ensures) c.in_ok-whole.ensures.known
 
 pub print_columns-requires : goal.print_columns-requires
 print_columns-requires g c =
-    subst (λ (it : List (List (List ℕ))). AreKnown c.args.options.now.header it c.in_ok-whole.whole.facts) (ap field_rows c.as_slice-texts.ensures.value) c.in_ok-whole.ensures.known
+    subst (λ (it : List (List (List ℕ))). AreKnown c.args.options.now.header it c.in_ok-whole.whole.facts) (c.view-texts.ensures) c.in_ok-whole.ensures.known
 
 pub returns-in_err-whole-clause-front : goal.returns-in_err-whole-clause-front
 returns-in_err-whole-clause-front g c = on-err c.from_residual.result _ (inl refl)
@@ -36,7 +35,7 @@ returns-then-are_shown-clause-printed g c =
     let kept = kept_view c.args.kept in
     let old = g.W.Write.contents (inner_of c.args.writer.now) in
     let new = g.W.Write.contents (inner_of c.print_shown.new.writer) in
-    let given = ap field_rows c.as_slice-texts.ensures.value in
+    let given = c.view-texts.ensures in
     let none : shows_whole_rows options kept.rows ≡ true = ap (shows_whole_rows options) (sym given) ∙ sym c.in_ok-whole.ensures.whole ∙ c.if-are_shown.true in
     ok-first (shows_whole_rows options kept.rows) c.print_shown.result (λ it. PrintsShown options kept.shown kept.rows None it.wider old new) (λ it. PrintsColumns options kept it.wider old new) none c.print_shown.ensures.printed
 
@@ -46,7 +45,7 @@ returns-then-are_shown-clause-front g c =
     let kept = kept_view c.args.kept in
     let old = g.W.Write.contents (inner_of c.args.writer.now) in
     let new = g.W.Write.contents (inner_of c.print_shown.new.writer) in
-    let given = ap field_rows c.as_slice-texts.ensures.value in
+    let given = c.view-texts.ensures in
     let none : shows_whole_rows options kept.rows ≡ true = ap (shows_whole_rows options) (sym given) ∙ sym c.in_ok-whole.ensures.whole ∙ c.if-are_shown.true in
     front-first (shows_whole_rows options kept.rows) c.print_shown.result (c.print_shown.new.writer ≡ c.args.writer.now) (PrintsShownFront options kept.shown kept.rows None old new) (PrintsColumnsFront options kept old new) none c.print_shown.ensures.front
 
@@ -54,7 +53,7 @@ pub returns-then-are_shown-clause-refused : goal.returns-then-are_shown-clause-r
 returns-then-are_shown-clause-refused g c =
     let options = c.args.options.now in
     let kept = kept_view c.args.kept in
-    let given = ap field_rows c.as_slice-texts.ensures.value in
+    let given = c.view-texts.ensures in
     let none : shows_whole_rows options kept.rows ≡ true = ap (shows_whole_rows options) (sym given) ∙ sym c.in_ok-whole.ensures.whole ∙ c.if-are_shown.true in
     err-first (shows_whole_rows options kept.rows) c.print_shown.result (IsShownFault options kept.shown kept.rows) (IsColumnsFault options kept) none c.print_shown.ensures.refused
 
@@ -64,7 +63,7 @@ returns-clause-printed g c =
     let kept = kept_view c.args.kept in
     let old = g.W.Write.contents (inner_of c.args.writer.now) in
     let new = g.W.Write.contents (inner_of c.print_columns.new.writer) in
-    let given = ap field_rows c.as_slice-texts.ensures.value in
+    let given = c.view-texts.ensures in
     let some : shows_whole_rows options kept.rows ≡ false = ap (shows_whole_rows options) (sym given) ∙ sym c.in_ok-whole.ensures.whole ∙ c.if-are_shown.false in
     ok-second (shows_whole_rows options kept.rows) c.print_columns.result (λ it. PrintsShown options kept.shown kept.rows None it.wider old new) (λ it. PrintsColumns options kept it.wider old new) some c.print_columns.ensures.printed
 
@@ -74,7 +73,7 @@ returns-clause-front g c =
     let kept = kept_view c.args.kept in
     let old = g.W.Write.contents (inner_of c.args.writer.now) in
     let new = g.W.Write.contents (inner_of c.print_columns.new.writer) in
-    let given = ap field_rows c.as_slice-texts.ensures.value in
+    let given = c.view-texts.ensures in
     let some : shows_whole_rows options kept.rows ≡ false = ap (shows_whole_rows options) (sym given) ∙ sym c.in_ok-whole.ensures.whole ∙ c.if-are_shown.false in
     front-second (shows_whole_rows options kept.rows) c.print_columns.result (c.print_columns.new.writer ≡ c.args.writer.now) (PrintsShownFront options kept.shown kept.rows None old new) (PrintsColumnsFront options kept old new) some c.print_columns.ensures.front
 
@@ -82,6 +81,6 @@ pub returns-clause-refused : goal.returns-clause-refused
 returns-clause-refused g c =
     let options = c.args.options.now in
     let kept = kept_view c.args.kept in
-    let given = ap field_rows c.as_slice-texts.ensures.value in
+    let given = c.view-texts.ensures in
     let some : shows_whole_rows options kept.rows ≡ false = ap (shows_whole_rows options) (sym given) ∙ sym c.in_ok-whole.ensures.whole ∙ c.if-are_shown.false in
     err-second (shows_whole_rows options kept.rows) c.print_columns.result (IsShownFault options kept.shown kept.rows) (IsColumnsFault options kept) some c.print_columns.ensures.refused

@@ -2,7 +2,7 @@
 use Rattle.std.proofs.Common.{◌≡◌, ◌∙◌, ap, ap₂, inl, refl, subst, sym, ℕ, List, []}
 use Rattle.std.specs.List.{count_by}
 use Rattle.tabled_output.specs.Counts.{inner_of}
-use Rattle.basinmug_input.specs.Fields.Fields.{field_rows}
+use Rattle.basinmug_cells.specs.Views.{view_rows}
 use Rattle.basinmug_columns.specs.declared.shown.ShownColumn.{ShownColumn}
 use Rattle.basinmug_run.specs.Columns.{column_counts, columns_in, given_for, is_of_input, last_for, missing_of_columns, number_in, table_columns, value_in, with_columns}
 use Rattle.basinmug_run.specs.Kept.{kept_view}
@@ -16,7 +16,7 @@ use Rattle.basinmug_run.proofs.running.print_columns.Goals as goal
 
 pub columns_of_table-requires : goal.columns_of_table-requires
 columns_of_table-requires g c =
-    subst (λ (it : List (List (List ℕ))). AreKnown c.args.options.now.header it c.args.known) (ap field_rows (sym c.as_slice-texts.ensures.value)) c.requires
+    subst (λ (it : List (List (List ℕ))). AreKnown c.args.options.now.header it c.args.known) (sym c.view-texts.ensures) c.requires
 
 pub returns-in_err-named-clause-front : goal.returns-in_err-named-clause-front
 returns-in_err-named-clause-front g c = on-err c.from_residual.result _ (inl refl)
@@ -36,11 +36,11 @@ returns-in_err-named-clause-refused g c =
     let kept = kept_view c.args.kept in
     let fault = c.in_err-named.field-0.0 in
     err-told c.from_residual.result fault _ c.from_residual.ensures.1
-    (columns-fault options kept fault (subst (λ (it : List (List (List ℕ))). IsFirstMissing (missing_of_columns options kept.columns it) fault) (ap field_rows c.as_slice-texts.ensures.value) c.in_err-named.ensures.refused))
+    (columns-fault options kept fault (subst (λ (it : List (List (List ℕ))). IsFirstMissing (missing_of_columns options kept.columns it) fault) (c.view-texts.ensures) c.in_err-named.ensures.refused))
 
 pub returns-in_err-named-clause-writer : goal.returns-in_err-named-clause-writer
 returns-in_err-named-clause-writer g c =
-    name-missing c.args.writer.now (missing_of_columns c.args.options.now c.args.kept.columns (field_rows c.as_slice-texts.result.now)) c.in_err-named.field-0.0 c.from_residual.result c.from_residual.ensures.1 c.in_err-named.ensures.refused
+    name-missing c.args.writer.now (missing_of_columns c.args.options.now c.args.kept.columns (view_rows c.view-texts.result)) c.in_err-named.field-0.0 c.from_residual.result c.from_residual.ensures.1 c.in_err-named.ensures.refused
 
 pub returns-clause-printed : goal.returns-clause-printed
 returns-clause-printed g c =
@@ -49,8 +49,8 @@ returns-clause-printed g c =
     let rows = kept.rows in
     let found = c.in_ok-named.named in
     let had = c.in_ok-columns.columns in
-    let texts = field_rows c.as_slice-texts.result.now in
-    let given : texts ≡ rows = ap field_rows c.as_slice-texts.ensures.value in
+    let texts = view_rows c.view-texts.result in
+    let given : texts ≡ rows = c.view-texts.ensures in
     let all_named : missing_kept options kept ≡ [] = subst (λ (it : List (List (List ℕ))). missing_of_columns options kept.columns it ≡ []) given c.in_ok-named.ensures.named in
     let chosen : c.as_slice-chosen.result.now ≡ columns_in options texts = c.as_slice-chosen.ensures.value ∙ c.in_ok-named.ensures.columns in
     let columns : had.shown.items ≡ table_columns options rows = table-are options rows texts c.as_slice-chosen.result.now had.shown.items given chosen c.in_ok-columns.ensures.shown in
@@ -62,8 +62,8 @@ returns-clause-printed g c =
     (λ column. c.in_ok-named.ensures.colors column ∙ ap (λ (it : List (List (List ℕ))). last_for (given_for (number_in options it) options.colors.items) column) given) c.in_ok-own.ensures in
     let counts : (c.count.result, had.all) ≡ column_counts options rows =
     ap₂ (λ (m n : ℕ). (m, n)) (c.count.ensures ∙ ap (count_by is_of_input) columns) (all-are options rows texts c.as_slice-chosen.result.now had.all given chosen c.in_ok-columns.ensures.all) in
-    let cells : field_rows c.in_ok-cells.cells.items ≡ table_rows options kept = c.in_ok-cells.ensures ∙ ap (λ (it : List ShownColumn). with_columns it rows) of_table in
-    own-printed options kept all_named own are (c.count.result, had.all) counts (field_rows c.in_ok-cells.cells.items) cells c.print_shown.result
+    let cells : c.in_ok-cells.cells.rows ≡ table_rows options kept = c.in_ok-cells.ensures ∙ ap (λ (it : List ShownColumn). with_columns it rows) of_table in
+    own-printed options kept all_named own are (c.count.result, had.all) counts c.in_ok-cells.cells.rows cells c.print_shown.result
     (g.W.Write.contents (inner_of c.args.writer.now)) (g.W.Write.contents (inner_of c.print_shown.new.writer)) c.print_shown.ensures.printed
 
 pub returns-clause-front : goal.returns-clause-front
@@ -73,8 +73,8 @@ returns-clause-front g c =
     let rows = kept.rows in
     let found = c.in_ok-named.named in
     let had = c.in_ok-columns.columns in
-    let texts = field_rows c.as_slice-texts.result.now in
-    let given : texts ≡ rows = ap field_rows c.as_slice-texts.ensures.value in
+    let texts = view_rows c.view-texts.result in
+    let given : texts ≡ rows = c.view-texts.ensures in
     let all_named : missing_kept options kept ≡ [] = subst (λ (it : List (List (List ℕ))). missing_of_columns options kept.columns it ≡ []) given c.in_ok-named.ensures.named in
     let chosen : c.as_slice-chosen.result.now ≡ columns_in options texts = c.as_slice-chosen.ensures.value ∙ c.in_ok-named.ensures.columns in
     let columns : had.shown.items ≡ table_columns options rows = table-are options rows texts c.as_slice-chosen.result.now had.shown.items given chosen c.in_ok-columns.ensures.shown in
@@ -86,8 +86,8 @@ returns-clause-front g c =
     (λ column. c.in_ok-named.ensures.colors column ∙ ap (λ (it : List (List (List ℕ))). last_for (given_for (number_in options it) options.colors.items) column) given) c.in_ok-own.ensures in
     let counts : (c.count.result, had.all) ≡ column_counts options rows =
     ap₂ (λ (m n : ℕ). (m, n)) (c.count.ensures ∙ ap (count_by is_of_input) columns) (all-are options rows texts c.as_slice-chosen.result.now had.all given chosen c.in_ok-columns.ensures.all) in
-    let cells : field_rows c.in_ok-cells.cells.items ≡ table_rows options kept = c.in_ok-cells.ensures ∙ ap (λ (it : List ShownColumn). with_columns it rows) of_table in
-    own-front options kept all_named own are (c.count.result, had.all) counts (field_rows c.in_ok-cells.cells.items) cells c.print_shown.result (c.print_shown.new.writer ≡ c.args.writer.now)
+    let cells : c.in_ok-cells.cells.rows ≡ table_rows options kept = c.in_ok-cells.ensures ∙ ap (λ (it : List ShownColumn). with_columns it rows) of_table in
+    own-front options kept all_named own are (c.count.result, had.all) counts c.in_ok-cells.cells.rows cells c.print_shown.result (c.print_shown.new.writer ≡ c.args.writer.now)
     (g.W.Write.contents (inner_of c.args.writer.now)) (g.W.Write.contents (inner_of c.print_shown.new.writer)) c.print_shown.ensures.front
 
 pub returns-clause-refused : goal.returns-clause-refused
@@ -97,8 +97,8 @@ returns-clause-refused g c =
     let rows = kept.rows in
     let found = c.in_ok-named.named in
     let had = c.in_ok-columns.columns in
-    let texts = field_rows c.as_slice-texts.result.now in
-    let given : texts ≡ rows = ap field_rows c.as_slice-texts.ensures.value in
+    let texts = view_rows c.view-texts.result in
+    let given : texts ≡ rows = c.view-texts.ensures in
     let all_named : missing_kept options kept ≡ [] = subst (λ (it : List (List (List ℕ))). missing_of_columns options kept.columns it ≡ []) given c.in_ok-named.ensures.named in
     let chosen : c.as_slice-chosen.result.now ≡ columns_in options texts = c.as_slice-chosen.ensures.value ∙ c.in_ok-named.ensures.columns in
     let columns : had.shown.items ≡ table_columns options rows = table-are options rows texts c.as_slice-chosen.result.now had.shown.items given chosen c.in_ok-columns.ensures.shown in
@@ -110,5 +110,5 @@ returns-clause-refused g c =
     (λ column. c.in_ok-named.ensures.colors column ∙ ap (λ (it : List (List (List ℕ))). last_for (given_for (number_in options it) options.colors.items) column) given) c.in_ok-own.ensures in
     let counts : (c.count.result, had.all) ≡ column_counts options rows =
     ap₂ (λ (m n : ℕ). (m, n)) (c.count.ensures ∙ ap (count_by is_of_input) columns) (all-are options rows texts c.as_slice-chosen.result.now had.all given chosen c.in_ok-columns.ensures.all) in
-    let cells : field_rows c.in_ok-cells.cells.items ≡ table_rows options kept = c.in_ok-cells.ensures ∙ ap (λ (it : List ShownColumn). with_columns it rows) of_table in
-    own-refused options kept all_named own are (c.count.result, had.all) counts (field_rows c.in_ok-cells.cells.items) cells c.print_shown.result c.print_shown.ensures.refused
+    let cells : c.in_ok-cells.cells.rows ≡ table_rows options kept = c.in_ok-cells.ensures ∙ ap (λ (it : List ShownColumn). with_columns it rows) of_table in
+    own-refused options kept all_named own are (c.count.result, had.all) counts c.in_ok-cells.cells.rows cells c.print_shown.result c.print_shown.ensures.refused

@@ -3,7 +3,6 @@ use Rattle.std.proofs.Common.{◌≡◌, ◌⊎◌, ◌∙◌, inl, refl, subst}
 use Rattle.tabled_output.specs.Counts.{inner_of}
 use Rattle.basinmug_run.proofs.PictureLemmas.Narrowed.{err-told, on-err}
 use Rattle.basinmug_run.specs.Faults.{of_input, of_print}
-use Rattle.basinmug_input.specs.Fields.Fields.{field_rows}
 use Rattle.basinmug_input.specs.Rows.{rows_in}
 use Rattle.basinmug_run.specs.Kept.{Kept, kept_of, kept_view}
 use Rattle.basinmug_run.specs.Runs.{IsKeptFault, PrintsKept, PrintsKeptFront}
@@ -30,7 +29,7 @@ returns-in_err-printed-clause-front g c =
     let same = c.print_kept.new.writer ≡ c.args.writer.now in
     let are = c.in_ok-read.ensures in
     let kept : kept_view c.kept_read-kept.result ≡ kept_of options (rows_in options.escapes c.args.delimiter c.args.bytes.now) =
-    c.kept_read-kept.ensures ∙ read-kept options (rows_in options.escapes c.args.delimiter c.args.bytes.now) c.choice_of.result c.choice_of.ensures (field_rows c.in_ok-read.read.rows.items) c.in_ok-read.read.left_out c.in_ok-read.read.columns are.rows are.left_out are.columns in
+    c.kept_read-kept.ensures ∙ read-kept options (rows_in options.escapes c.args.delimiter c.args.bytes.now) c.choice_of.result c.choice_of.ensures c.in_ok-read.read.rows.rows c.in_ok-read.read.left_out c.in_ok-read.read.columns are.rows are.left_out are.columns in
     on-err c.from_residual-in_err-printed.result _
     (begins-text c.args.delimiter c.args.bytes.now options same old new are.readable
     (subst (λ (it : Kept). same ⊎ PrintsKeptFront options it old new) kept c.in_err-printed.ensures.front))
@@ -45,7 +44,7 @@ returns-in_err-printed-clause-refused g c =
     let fault = c.in_err-printed.field-0.0 in
     let are = c.in_ok-read.ensures in
     let kept : kept_view c.kept_read-kept.result ≡ kept_of options (rows_in options.escapes c.args.delimiter c.args.bytes.now) =
-    c.kept_read-kept.ensures ∙ read-kept options (rows_in options.escapes c.args.delimiter c.args.bytes.now) c.choice_of.result c.choice_of.ensures (field_rows c.in_ok-read.read.rows.items) c.in_ok-read.read.left_out c.in_ok-read.read.columns are.rows are.left_out are.columns in
+    c.kept_read-kept.ensures ∙ read-kept options (rows_in options.escapes c.args.delimiter c.args.bytes.now) c.choice_of.result c.choice_of.ensures c.in_ok-read.read.rows.rows c.in_ok-read.read.left_out c.in_ok-read.read.columns are.rows are.left_out are.columns in
     err-told c.from_residual-in_err-printed.result (of_print fault) _ c.from_residual-in_err-printed.ensures.1
     (not-printed c.args.delimiter c.args.bytes.now options fault are.readable
     (subst (λ (it : Kept). IsKeptFault options it fault) kept c.in_err-printed.ensures.refused))
@@ -59,5 +58,5 @@ returns-clause-printed g c =
     let options = c.args.options.now in
     let are = c.in_ok-read.ensures in
     let kept : kept_view c.kept_read-kept.result ≡ kept_of options (rows_in options.escapes c.args.delimiter c.args.bytes.now) =
-    c.kept_read-kept.ensures ∙ read-kept options (rows_in options.escapes c.args.delimiter c.args.bytes.now) c.choice_of.result c.choice_of.ensures (field_rows c.in_ok-read.read.rows.items) c.in_ok-read.read.left_out c.in_ok-read.read.columns are.rows are.left_out are.columns in
+    c.kept_read-kept.ensures ∙ read-kept options (rows_in options.escapes c.args.delimiter c.args.bytes.now) c.choice_of.result c.choice_of.ensures c.in_ok-read.read.rows.rows c.in_ok-read.read.left_out c.in_ok-read.read.columns are.rows are.left_out are.columns in
     subst (λ (it : Kept). PrintsKept options it c.in_ok-printed.printed.wider (g.W.Write.contents (inner_of c.args.writer.now)) (g.W.Write.contents (inner_of c.print_kept.new.writer))) kept c.in_ok-printed.ensures.printed

@@ -1,6 +1,6 @@
 -- What a table looks like, by its rows.
 use Rattle.std.proofs.Common.{◌≡◌, ◌∙◌, ◌++◌, [], map, subst, ℕ, List}
-use Rattle.basinmug_input.specs.Fields.Fields.{field_rows, field_text}
+use Rattle.basinmug_cells.specs.Views.{row_texts, view_rows}
 use Rattle.basinmug_run.specs.Picture.Names.{IsFirstMissing, missing_names}
 use Rattle.basinmug_run.proofs.PictureLemmas.Narrowed.{err-told}
 use Rattle.basinmug_run.proofs.PictureLemmas.Tables.{settings-are}
@@ -8,7 +8,7 @@ use Rattle.basinmug_run.proofs.picture.appearance.appearance_of.Goals as goal
 
 pub returns-clause-settings : goal.returns-clause-settings
 returns-clause-settings c =
-    settings-are c.args.options.now (field_rows c.args.rows.now) (map field_text c.header_of-header.result.now) c.as_slice-numbers.result.now c.in_ok-settings.settings.items c.in_ok-settings.ensures.settings
+    settings-are c.args.options.now (view_rows c.args.rows) (row_texts c.header_of-header.result) c.as_slice-numbers.result.now c.in_ok-settings.settings.items c.in_ok-settings.ensures.settings
     c.header_of-header.ensures (c.as_slice-numbers.ensures.value ∙ c.in_ok-facts.ensures.numeric)
 
 pub returns-in_err-settings-clause-refused : goal.returns-in_err-settings-clause-refused

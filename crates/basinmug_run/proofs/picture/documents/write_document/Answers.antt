@@ -1,9 +1,8 @@
 -- A header, and what is written below it.
 use Rattle.std.proofs.Common.{inr}
-use Rattle.tabled.specs.Tables.{state_of}
+use Rattle.basinmug_run.specs.Picture.TableRows.{state_of}
 use Rattle.tabled.specs.Writing.{chosen_lines}
 use Rattle.tabled_output.specs.Counts.{inner_of}
-use Rattle.basinmug_input.specs.Fields.Fields.{field_text}
 use Rattle.basinmug_run.specs.Picture.Documents.{below_header, is_of}
 use Rattle.basinmug_run.specs.declared.picture.documents.DocumentPart.TheVariants.{Header}
 use Rattle.basinmug_run.proofs.PictureLemmas.Behind.{all-behind, front-behind-whole}
@@ -14,15 +13,15 @@ use Rattle.basinmug_run.proofs.picture.documents.write_document.Goals as goal
 
 pub returns-in_err-build_lines-clause-built : goal.returns-in_err-build_lines-clause-built
 returns-in_err-build_lines-clause-built g c =
-    let s = state_of field_text c.args.table.now in
+    let s = state_of c.args.table.now in
     built-so-far g.W.Write.contents s (chosen_lines (is_of Header) s) (below_header c.args.more.now s) c.in_err-build_lines.field-0.0 c.from_residual.result c.args.writer.now c.build_lines.new.writer c.from_residual.ensures.1 c.in_err-build_lines.ensures.built
 
 pub returns-in_err-build_lines-clause-table : goal.returns-in_err-build_lines-clause-table
-returns-in_err-build_lines-clause-table g c = refused-so (state_of field_text c.args.table.now) c.in_err-build_lines.field-0.0 c.from_residual.result c.from_residual.ensures.1 c.in_err-build_lines.ensures.table
+returns-in_err-build_lines-clause-table g c = refused-so (state_of c.args.table.now) c.in_err-build_lines.field-0.0 c.from_residual.result c.from_residual.ensures.1 c.in_err-build_lines.ensures.table
 
 pub returns-clause-built : goal.returns-clause-built
 returns-clause-built g c =
-    let s = state_of field_text c.args.table.now in
+    let s = state_of c.args.table.now in
     let first = c.in_ok-build_lines.ensures.built in
     let result = c.write_below_header.result in
     let a = c.args.writer.now in
@@ -44,5 +43,5 @@ returns-clause-table g c =
     let fits = c.in_ok-build_lines.ensures.table.fits in
     record {
       fits = on-ok c.write_below_header.result _ fits;
-      refused = refused-late (state_of field_text c.args.table.now) c.write_below_header.result fits c.write_below_header.ensures.late;
+      refused = refused-late (state_of c.args.table.now) c.write_below_header.result fits c.write_below_header.ensures.late;
     }

@@ -1,16 +1,15 @@
 -- The widths that a table's columns get, and what becomes of its texts.
 use Rattle.std.proofs.Common.{◌≡◌, ◌∙◌, ℕ, List, ◌++◌, drop, length, take}
-use Rattle.tabled.specs.Tables.{state_of}
+use Rattle.basinmug_run.specs.Picture.TableRows.{state_of}
 use Rattle.tabled_list.specs.Lists.{LeadsThrough}
-use Rattle.basinmug_input.specs.Fields.Fields.{field_text}
 use Rattle.basinmug_run.specs.Picture.Fitting.{trims, with_fitted_texts}
 use Rattle.basinmug_run.proofs.PictureLemmas.Narrowed.{are-asked, err-told, not-fitted, narrows-by, of-widths, on-ok, written_back}
 use Rattle.basinmug_run.proofs.picture.narrowing.narrow.Goals as goal
 
 pub returns-clause-narrowed : goal.returns-clause-narrowed
 returns-clause-narrowed c =
-    let old = state_of field_text c.args.table.now in
-    let new = state_of field_text c.fit_columns.new.table in
+    let old = state_of c.args.table.now in
+    let new = state_of c.fit_columns.new.table in
     let truncate = c.args.asked.truncate in
     let priority = c.args.asked.priority in
     let needs = c.args.needs.now in
@@ -29,7 +28,7 @@ returns-clause-narrowed c =
 
 pub returns-in_err-fit_columns-clause-refused : goal.returns-in_err-fit_columns-clause-refused
 returns-in_err-fit_columns-clause-refused c =
-    let old = state_of field_text c.args.table.now in
+    let old = state_of c.args.table.now in
     let truncate = c.args.asked.truncate in
     let priority = c.args.asked.priority in
     let needs = c.args.needs.now in

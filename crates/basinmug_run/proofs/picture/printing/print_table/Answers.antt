@@ -1,8 +1,7 @@
 -- What is printed of a table, and what comes of a refusal.
 use Rattle.std.proofs.Common.{inl, refl}
-use Rattle.tabled.specs.Tables.{state_of}
+use Rattle.basinmug_run.specs.Picture.TableRows.{state_of}
 use Rattle.tabled_output.specs.Counts.{inner_of}
-use Rattle.basinmug_input.specs.Fields.Fields.{field_text}
 use Rattle.basinmug_run.specs.Picture.Faults.{of_build, of_table}
 use Rattle.basinmug_run.specs.Picture.Lines.{picture_text}
 use Rattle.basinmug_run.specs.Picture.Pictures.{IsMade, IsNotMade}
@@ -20,7 +19,7 @@ pub returns-in_err-wider-clause-refused : goal.returns-in_err-wider-clause-refus
 returns-in_err-wider-clause-refused g c =
     let options = c.args.options.now in
     let it = c.args.appearance.now in
-    let old = state_of field_text c.args.table.now in
+    let old = state_of c.args.table.now in
     err-told c.from_residual.result (of_table c.in_err-wider.field-0.0) _ c.from_residual.ensures.1
     (no-table (IsMade options it.settings.items it.needs.items old) (IsNotMade options it.settings.items it.needs.items old) c.in_err-wider.field-0.0 c.in_err-wider.ensures.refused)
 
@@ -33,22 +32,22 @@ returns-in_err-write_picture-clause-front g c =
     let it = c.args.appearance.now in
     let lines = c.args.lines.now in
     on-err c.from_residual-in_err-write_picture.result _
-    (begins-table (IsMade options it.settings.items it.needs.items (state_of field_text c.args.table.now)) (picture_text options.line_style lines.rules lines.header lines.rows c.args.more.now)
-    (state_of field_text c.make_table.new.table) _ (g.W.Write.contents (inner_of c.args.writer.now)) (g.W.Write.contents (inner_of c.write_picture.new.writer)) c.in_ok-wider.ensures.made c.in_err-write_picture.ensures.built.front)
+    (begins-table (IsMade options it.settings.items it.needs.items (state_of c.args.table.now)) (picture_text options.line_style lines.rules lines.header lines.rows c.args.more.now)
+    (state_of c.make_table.new.table) _ (g.W.Write.contents (inner_of c.args.writer.now)) (g.W.Write.contents (inner_of c.write_picture.new.writer)) c.in_ok-wider.ensures.made c.in_err-write_picture.ensures.built.front)
 
 pub returns-in_err-write_picture-clause-untouched : goal.returns-in_err-write_picture-clause-untouched
 returns-in_err-write_picture-clause-untouched g c =
     err-told c.from_residual-in_err-write_picture.result (of_build c.in_err-write_picture.field-0.0) _ c.from_residual-in_err-write_picture.ensures.1
-    (λ none. left-alone (state_of field_text c.make_table.new.table) c.in_err-write_picture.field-0.0 _ _ c.in_err-write_picture.ensures.table.refused c.in_err-write_picture.ensures.built.front
+    (λ none. left-alone (state_of c.make_table.new.table) c.in_err-write_picture.field-0.0 _ _ c.in_err-write_picture.ensures.table.refused c.in_err-write_picture.ensures.built.front
     (nothing-written c.in_err-write_picture.field-0.0 none))
 
 pub returns-in_err-write_picture-clause-refused : goal.returns-in_err-write_picture-clause-refused
 returns-in_err-write_picture-clause-refused g c =
     let options = c.args.options.now in
     let it = c.args.appearance.now in
-    let old = state_of field_text c.args.table.now in
+    let old = state_of c.args.table.now in
     err-told c.from_residual-in_err-write_picture.result (of_build c.in_err-write_picture.field-0.0) _ c.from_residual-in_err-write_picture.ensures.1
-    (refusal-by (IsMade options it.settings.items it.needs.items old) (IsNotMade options it.settings.items it.needs.items old) (state_of field_text c.make_table.new.table) c.in_err-write_picture.field-0.0
+    (refusal-by (IsMade options it.settings.items it.needs.items old) (IsNotMade options it.settings.items it.needs.items old) (state_of c.make_table.new.table) c.in_err-write_picture.field-0.0
     c.in_ok-wider.ensures.made c.in_err-write_picture.ensures.table.refused)
 
 pub returns-in_err-write_picture-clause-writer : goal.returns-in_err-write_picture-clause-writer
@@ -57,7 +56,7 @@ returns-in_err-write_picture-clause-writer g c =
 
 pub returns-clause-printed : goal.returns-clause-printed
 returns-clause-printed g c = (
-  state_of field_text c.make_table.new.table,
+  state_of c.make_table.new.table,
   c.in_ok-wider.ensures.made,
   c.in_ok-write_picture.ensures.table.fits,
   c.in_ok-wider.ensures.wider,

@@ -1,11 +1,10 @@
 -- What is printed, in either way.
 use Rattle.std.proofs.Common.{◌≡◌, ◌∙◌, ap, subst, sym, ℕ, Bool, true, false, List, Option, Result, if◌then◌else◌}
-use Rattle.tabled.specs.Tables.{state_of}
+use Rattle.basinmug_run.specs.Picture.TableRows.{state_of}
 use Rattle.tabled.specs.Writing.{IsBuilt}
 use Rattle.tabled_output.specs.declared.building.BuildFault.{BuildFault}
 use Rattle.tabled_output.specs.declared.counted.Counted.{Counted}
 use Rattle.tabled_steps.specs.States.{State}
-use Rattle.basinmug_input.specs.Fields.Fields.{field_text}
 use Rattle.program_options.specs.declared.basinmug.LineStyle.{LineStyle}
 use Rattle.program_options.specs.declared.basinmug.Rules.{Rules}
 use Rattle.basinmug_run.specs.Picture.Documents.{document_text}
@@ -30,10 +29,10 @@ pub returns-then-is_markdown-clause-built : goal.returns-then-is_markdown-clause
 returns-then-is_markdown-clause-built g c =
     let lines = c.args.lines.now in
     document-built g.W.Write.contents c.write_document.result c.args.writer.now c.write_document.new.writer c.args.line_style lines.rules lines.header lines.rows c.args.more.now
-    (state_of field_text c.args.table.now) (sym c.is_markdown.ensures ∙ c.if-is_markdown.true) c.write_document.ensures.built
+    (state_of c.args.table.now) (sym c.is_markdown.ensures ∙ c.if-is_markdown.true) c.write_document.ensures.built
 
 pub returns-else-is_markdown-clause-built : goal.returns-else-is_markdown-clause-built
 returns-else-is_markdown-clause-built g c =
     let lines = c.args.lines.now in
     table-built g.W.Write.contents c.write_lines.result c.args.writer.now c.write_lines.new.writer c.args.line_style lines.rules lines.header lines.rows c.args.more.now
-    (state_of field_text c.args.table.now) (sym c.is_markdown.ensures ∙ c.if-is_markdown.false) c.write_lines.ensures.built
+    (state_of c.args.table.now) (sym c.is_markdown.ensures ∙ c.if-is_markdown.false) c.write_lines.ensures.built

@@ -1,11 +1,11 @@
 -- By the header, what the columns of the header say.
-use Rattle.std.proofs.Common.{◌≡◌, ◌∙◌, ◌++◌, ◌∷◌, [], ap, ap₂, sym, ℕ, List, Option, map}
+use Rattle.std.proofs.Common.{◌≡◌, ◌∙◌, ◌++◌, ◌∷◌, [], ap, ap₂, sym, ℕ, List, Option}
 use Rattle.std.proofs.Math.Path.{fun_ext}
 use Rattle.grid_config.specs.Colors.{Color as CellColor}
 use Rattle.grid_config_values.specs.declared.alignment.AlignmentHorizontal.{AlignmentHorizontal}
 use Rattle.grid_config_values.specs.declared.borders.Borders.{Borders as Glyphs}
 use Rattle.basinmug_columns.specs.Names.{column_number, number_of}
-use Rattle.basinmug_input.specs.Fields.Fields.{field_text}
+use Rattle.basinmug_cells.specs.Views.{row_texts}
 use Rattle.program_options.specs.declared.basinmug.ColumnName.{ColumnName}
 use Rattle.tabled_list.specs.declared.setting.Setting.{Setting}
 use Rattle.tabled_list.specs.declared.setting.Setting.TheVariants.{Borders}
@@ -18,7 +18,7 @@ use Rattle.basinmug_run.proofs.picture.settings.settings_of.Goals as goal
 pub returns-in_err-push_alignments-clause-refused : goal.returns-in_err-push_alignments-clause-refused
 returns-in_err-push_alignments-clause-refused c =
     let options = c.args.options.now in
-    let header = map field_text c.args.header.now in
+    let header = row_texts c.args.header in
     let look = number_of c.in_ok-columns.columns in
     let is : look ≡ column_number header = fun_ext c.in_ok-columns.ensures in
     let fault = c.in_err-push_alignments.field-0.0 in
@@ -31,7 +31,7 @@ returns-in_err-push_alignments-clause-refused c =
 pub returns-in_err-push_colors-clause-refused : goal.returns-in_err-push_colors-clause-refused
 returns-in_err-push_colors-clause-refused c =
     let options = c.args.options.now in
-    let header = map field_text c.args.header.now in
+    let header = row_texts c.args.header in
     let look = number_of c.in_ok-columns.columns in
     let is : look ≡ column_number header = fun_ext c.in_ok-columns.ensures in
     let fault = c.in_err-push_colors.field-0.0 in
@@ -46,7 +46,7 @@ returns-in_err-push_colors-clause-refused c =
 pub returns-clause-settings : goal.returns-clause-settings
 returns-clause-settings c =
     let options = c.args.options.now in
-    let header = map field_text c.args.header.now in
+    let header = row_texts c.args.header in
     let look = number_of c.in_ok-columns.columns in
     let is : look ≡ column_number header = fun_ext c.in_ok-columns.ensures in
     let lines = glyphs_of options.line_style in
@@ -64,7 +64,7 @@ returns-clause-settings c =
 pub returns-clause-named : goal.returns-clause-named
 returns-clause-named c =
     let options = c.args.options.now in
-    let header = map field_text c.args.header.now in
+    let header = row_texts c.args.header in
     let look = number_of c.in_ok-columns.columns in
     let is : look ≡ column_number header = fun_ext c.in_ok-columns.ensures in
     ap₂ (λ (first rest : List (List ℕ)). first ++ rest)
