@@ -33,10 +33,11 @@ held_in text own places ends =
     let texts = map (place_text text own) places in
     record { text = text; rows = rows_by 0 ends texts; begun = drop (start_at 0 ends (length ends)) texts }
 
--- the first of a list, and of those after them the last, as `head -n` and `tail -n` choose lines (POSIX)
+-- the last of a list, as far as there are so many
 abbrev pub last_of : {X : Type 0} → ℕ → List X → List X
 last_of most xs = drop (length xs - most) xs
 
+-- the first, and of those after them the last, as `head -n` and `tail -n` choose lines (POSIX)
 abbrev pub first_and_last : {X : Type 0} → ℕ → ℕ → List X → List X
 first_and_last first last xs = take first xs ++ last_of last (drop first xs)
 

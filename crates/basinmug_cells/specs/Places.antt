@@ -15,7 +15,7 @@ own_place index = record { start = index; len = 0; width = 0; is_own = true }
 abbrev pub place_text : List ℕ → List (List ℕ) → Place → List ℕ
 place_text text own place = if place.is_own then slice_index_or own place.start [] else slice_range text place.start (place.start + place.len)
 
--- a part is one line of the text, and takes so many columns
+-- a part of the text is one line by itself, and takes so many columns
 pub record IsPart (text : List ℕ) (start len width : ℕ) : Type 0 where
   pub begins : IsCharBoundary text start
   pub ends : IsCharBoundary text (start + len)

@@ -13,7 +13,7 @@ use std::marker::Model;
 use std::rc::Rc;
 
 /// Rows of cells, each a part of one text or a text of its own. All cells are in one vector, and where each row ends is in
-/// another: a cell takes 16 bytes of memory, and a row 8. In a contract it is this text, the rows that are ended, and the
+/// another: a part takes 16 bytes of memory, and a row 8. In a contract it is this text, the rows that are ended, and the
 /// cells of the row that isn't.
 #[derive(Drop)]
 pub struct Rows<'a> {

@@ -4,6 +4,7 @@ ghost use Rattle.grid_records_measure.specs.Measures.{are_printable};
 ghost use Rattle.grid_records_traits.specs.Cells.{HasLineCount, HasWidth, IsLineAt};
 ghost use Rattle.basinmug_cells.specs.Measured.{IsMeasured};
 
+use ansi_str::AnsiStr;
 use grid_records_traits::{Cell, SingleLineCell};
 use std::alloc::{AllocError, Global};
 
@@ -85,13 +86,16 @@ impl Cell for ShortText {
     }
 }
 
-// Whether a text of so many lines is its only line. Fails only where allocation fails.
+// Whether a text of so many lines is its only line, as one without ESC is that has one. Fails only where allocation fails.
 fn is_only_line(alloc: Global, text: &str, lines: usize) -> Result<bool, AllocError>
     requires { HasLineCount text.now lines }
     ensures { IfOk result (λ is. is ≡ true → (lines ≡ 1) × IsLineAt text.now 0 text.now) }
 {
     if lines != 1 {
         return Ok(false);
+    }
+    if !text.ansi_has_any() {
+        return Ok(true);
     }
     let line = text.line(alloc, 0)?;
     Ok(line.as_str() == text)
