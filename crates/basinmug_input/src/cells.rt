@@ -1,5 +1,5 @@
 //! The cell of a field as a table shows it.
-ghost use Rattle.std.specs.Prelude.{◌≡◌, IfOk, IfSome, IsNone, IsUtf8, MatchResult, string_bytes};
+ghost use Rattle.std.specs.Prelude.{◌≡◌, IfErr, IfOk, IfSome, IsNone, IsUtf8, MatchResult, OnErr, string_bytes};
 ghost use Rattle.basinmug_input.specs.Cleaning.{cleaned};
 ghost use Rattle.basinmug_input.specs.Flaws.{HasBrokenEscape, HasFlaw, IsReadableField};
 ghost use Rattle.basinmug_input.specs.Rows.{HasShown};
@@ -22,14 +22,16 @@ pub enum Flaw {
 }
 
 /// Appends the cell of a field as a table shows it to the row that isn't ended, with a text of its own, or finds what is wrong
-/// with the field. Fails only where allocation fails.
+/// with the field. Fails only where allocation fails. In both cases nothing has changed.
 pub fn push_field(
     rows: &mut Rows<'_>,
     alloc: Global,
     field: &[u8],
     escapes: Escapes,
 ) -> Result<Result<(), Flaw>, AllocError>
-    ensures { IfOk result (λ read. MatchResult read (λ _. HasShown escapes field.now rows.old rows.new) (HasFlaw escapes field.now)) }
+    ensures read { IfOk result (λ read. MatchResult read (λ _. HasShown escapes field.now rows.old rows.new) (HasFlaw escapes field.now)) }
+    ensures flaw { IfOk result (λ read. IfErr read (λ _. rows.new ≡ rows.old)) }
+    ensures err { OnErr result (rows.new ≡ rows.old) }
 {
     match compat::from_utf8(field) {
         Ok(text) => push_own(rows, alloc, text, escapes),
@@ -46,7 +48,9 @@ pub(crate) fn push_own(
     text: &str,
     escapes: Escapes,
 ) -> Result<Result<(), Flaw>, AllocError>
-    ensures { IfOk result (λ read. MatchResult read (λ _. HasShown escapes text.now rows.old rows.new) (HasFlaw escapes text.now)) }
+    ensures read { IfOk result (λ read. MatchResult read (λ _. HasShown escapes text.now rows.old rows.new) (HasFlaw escapes text.now)) }
+    ensures flaw { IfOk result (λ read. IfErr read (λ _. rows.new ≡ rows.old)) }
+    ensures err { OnErr result (rows.new ≡ rows.old) }
 {
     match shown_text(alloc, text, escapes)? {
         Ok(shown) => {

@@ -24,8 +24,8 @@ use std::alloc::{AllocError, Global};
 /// section 2, as `csv` reads it; of any lengths), each field with its control characters made visible, and of its
 /// sequences those that `escapes` names. All are read, and those that `choice` names are kept; of the others no more are held
 /// at a time than of these, or than 64. A byte order mark at the start is not read. A cell borrows its text where the
-/// delimiter is ASCII and no quote, and the field is shown as it is, on one line: it is outside quotes, or what is between
-/// them, none doubled. Another has a text of its own.
+/// delimiter is ASCII and no quote, and the field is shown as it is, on one line of fewer than 2^16 columns: it is outside
+/// quotes, or what is between them, none doubled. Another has a text of its own.
 /// Errors come in the order of `InputFault`, each with its place, and those of rows that are not kept too.
 pub fn rows_of<'a>(
     alloc: Global,

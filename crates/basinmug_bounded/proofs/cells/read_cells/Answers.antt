@@ -38,7 +38,7 @@ loop-cell-preserved c =
     let below : i < length lengths = omega arith in
     let after = next lengths bytes rest i below known.left in
     let taken = ap (λ (k : ℕ). take k cells) (add-one i) ∙ next-taken i cells _ _ after in
-    let read = rw c.in-Ok.is at c.in_ok-push_field.ensures in
+    let read = rw c.in-Ok.is at c.in_ok-push_field.ensures.read in
     let total = sum_by-drop_more (λ x. x) lengths i 0 below in
     let enough = known.enough in
     let left_len = length-drop count rest in
@@ -71,7 +71,7 @@ returns-in-Err c =
       of_cells = sym (take-append-drop i cells) ∙ ap (λ (left : List (List ℕ)). take i cells ++ left) after;
       readable = known.readable;
       is_place = sym (length-take-le i cells low);
-      is_flawed = rw c.in-Err.is at c.in_ok-push_field.ensures;
+      is_flawed = rw c.in-Err.is at c.in_ok-push_field.ensures.read;
     }
 
 pub returns : goal.returns

@@ -13,6 +13,6 @@ returns-in-Ok c =
     let same = c.as_bytes-bytes.ensures.value in
     let found = rw c.in-Some.is at c.in_ok-field.ensures in
     let is = subst (λ (of : List ℕ). IsFieldAt d of c.args.start c.in-Some.end c.in-Some.field.items) same found in
-    let shown = subst (λ (of : List ℕ). HasShown c.args.escapes of c.args.rows.now c.push_field.new.rows) c.deref.ensures.value (rw c.in-Ok.is at c.in_ok-push_field.ensures) in
+    let shown = subst (λ (of : List ℕ). HasShown c.args.escapes of c.args.rows.now c.push_field.new.rows) c.deref.ensures.value (rw c.in-Ok.is at c.in_ok-push_field.ensures.read) in
     field-next c.args.escapes d text bytes c.args.start c.in-Some.end c.new.result c.in-Some.field.items c.args.rows.now c.push_field.new.rows
     c.requires.parts.ascii same is c.new.ensures.at c.new.ensures.parted shown

@@ -27,7 +27,7 @@ loop-field-preserved c =
     record {
       few = omega (arith, below);
       shown = subst (λ (of : List (List ℕ)). HaveShown c.args.escapes of c.args.rows.now c.push_field.new.rows) (sym first)
-          (shown-push c.args.escapes (take n fields) f c.args.rows.now c.loop-field.rows c.push_field.new.rows c.loop-field.invariant.shown (rw c.in-Ok.is at c.in_ok-push_field.ensures));
+          (shown-push c.args.escapes (take n fields) f c.args.rows.now c.loop-field.rows c.push_field.new.rows c.loop-field.invariant.shown (rw c.in-Ok.is at c.in_ok-push_field.ensures.read));
     }
 
 pub returns-in-Err : goal.returns-in-Err
@@ -44,7 +44,7 @@ returns-in-Err c =
       of_fields = sym (take-append-drop n fields) ∙ ap (λ (rest : List (List ℕ)). take n fields ++ rest) (drop_more fields n [] below);
       sound = c.loop-field.invariant.shown.sound;
       place = sym (length-take-le n fields low);
-      flaw = subst (λ (f : List ℕ). HasFlaw c.args.escapes f c.in-Err.flaw) (sym found.1) (rw c.in-Err.is at c.in_ok-push_field.ensures);
+      flaw = subst (λ (f : List ℕ). HasFlaw c.args.escapes f c.in-Err.flaw) (sym found.1) (rw c.in-Err.is at c.in_ok-push_field.ensures.read);
     }
 
 pub returns : goal.returns
