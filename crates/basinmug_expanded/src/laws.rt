@@ -35,6 +35,7 @@ pub fn names_by_hand()
 pub fn rules_by_hand()
     ensures whole { rule_line (record { names = 4; values = 3; rule = 14; truncate = false }) 0 ≡ codes "-[ RECORD 0 ]-" }
     ensures crossed { rule_line (record { names = 14; values = 3; rule = 20; truncate = false }) 0 ≡ codes "-[ RECORD 0 ]--+----" }
+    ensures just_behind { rule_line (record { names = 13; values = 3; rule = 20; truncate = false }) 0 ≡ codes "-[ RECORD 0 ]-+-----" }
     ensures taken { rule_line (record { names = 12; values = 5; rule = 20; truncate = false }) 0 ≡ codes "-[ RECORD 0 ]-------" }
     ensures tenth { rule_line (record { names = 1; values = 1; rule = 16; truncate = false }) 10 ≡ codes "-[ RECORD 10 ]--" }
     ensures cut { rule_line (record { names = 1; values = 1; rule = 5; truncate = false }) 0 ≡ codes "-[ RE" }
@@ -71,6 +72,7 @@ pub fn numbers_by_hand()
         ≡ codes "-[ RECORD 0 ]-\na | 1\n" ++ (0xe2 ∷ 0x80 ∷ 0xa6 ∷ codes "\n(3 records left out)\n") }
     ensures no_gap { records_text (record { header = true; width = None; truncate = false; rows_shown = Between 1 0 }) (codes "a" ∷ []) ((codes "1" ∷ []) ∷ (codes "2" ∷ []) ∷ [])
         ≡ codes "-[ RECORD 0 ]-\na | 1\n-[ RECORD 1 ]-\na | 2\n" }
+    ensures last_more { last_number (More 9) 2 ≡ 1 }
     ensures last_earlier { last_number (Earlier 9) 2 ≡ 10 }
     ensures last_between { last_number (Between 1 9) 2 ≡ 10 }
     ensures last_first { last_number (Between 2 9) 2 ≡ 1 }

@@ -69,7 +69,7 @@ abbrev pub shown_field : List (List ℕ) → ShownColumn → List ℕ
 shown_field row (Number number) = slice_index_or row number []
 shown_field row LeftOut = ellipsis
 
--- the number of a column that is shown
+-- the number of a column that is shown, and none of those that are left out
 abbrev pub number_if_shown : ShownColumn → Option ℕ
 number_if_shown (Number number) = Some number
 number_if_shown LeftOut = None

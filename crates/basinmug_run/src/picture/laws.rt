@@ -24,7 +24,8 @@ ghost use Rattle.basinmug_run.specs.Kept.{rows_shown, shown_rows};
 ghost use Rattle.basinmug_run.specs.Picture.Faults.{of_build, print_fault_text};
 ghost use Rattle.basinmug_run.specs.Picture.Fitting.{fitted, trims};
 ghost use Rattle.basinmug_run.specs.Picture.Lines.{below, is_chosen};
-ghost use Rattle.basinmug_run.specs.Picture.Pictures.{IsTable, asked_settings, cells_in, is_wider, numeric_of};
+ghost use Rattle.basinmug_run.specs.Picture.Pictures.{IsTable, asked_settings, cells_in, is_wider, needs_in, numeric_of};
+ghost use Rattle.basinmug_columns.specs.Needs.{needs_of};
 ghost use Rattle.basinmug_run.specs.Picture.Printed.{Prints, text_of};
 ghost use Rattle.basinmug_run.specs.Picture.Settings.{glyphs_of, settings_of};
 ghost use Rattle.basinmug_run.specs.Picture.Rows.{cells_of, is_markdown};
@@ -156,4 +157,10 @@ pub fn numeric_columns_by_hand()
     ensures header { numeric_of true ((codes "n" ∷ codes "m" ∷ []) ∷ (codes "1" ∷ codes "x" ∷ []) ∷ []) ≡ true ∷ false ∷ [] }
     ensures no_header { numeric_of false ((codes "n" ∷ []) ∷ (codes "1" ∷ []) ∷ []) ≡ false ∷ [] }
     ensures longer { numeric_of true ((codes "n" ∷ []) ∷ (codes "1" ∷ codes "2" ∷ []) ∷ []) ≡ true ∷ true ∷ [] }
+{}
+
+/// What columns need is found in the header and the records below it; without a header in all rows.
+pub fn needs_are_of_header_and_records()
+    ensures header { (row : List (List ℕ)) (rows : List (List (List ℕ))) → needs_in true (row ∷ rows) ≡ needs_of row rows (numeric_of true (row ∷ rows)) }
+    ensures no_header { (rows : List (List (List ℕ))) → needs_in false rows ≡ needs_of [] rows (numeric_of false rows) }
 {}

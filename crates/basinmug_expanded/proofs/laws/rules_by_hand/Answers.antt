@@ -8,6 +8,7 @@ unfolding digits
 returns c = record {
   whole = refl;
   crossed = refl;
+  just_behind = refl;
   taken = refl;
   tenth = refl;
   cut = refl;
