@@ -7,14 +7,17 @@ ghost use Rattle.grid_config.specs.declared.compact.CompactConfig.{CompactConfig
 ghost use Rattle.grid_config_values.specs.Spans.Spans.{IsVisible};
 ghost use Rattle.grid_config_values.specs.declared.spans.extent.Extent.{Extent};
 ghost use Rattle.grid_config_values.specs.declared.position.Position.{Position as CellPosition};
+ghost use Rattle.grid_config_values.specs.declared.sides.Indent.{Indent};
+ghost use Rattle.grid_config_values.specs.declared.sides.Sides.{Sides};
 ghost use Rattle.grid_records_traits.specs.Rows.{evened};
+ghost use Rattle.grid_records_traits.specs.TextLines.{text_height, text_width};
 ghost use Rattle.grid_records_estimate.specs.Alike.{AreAlike, HaveSameSizes};
 ghost use Rattle.grid_records_estimate.specs.Estimates.{TrackNeeds, track_sizes};
 ghost use Rattle.grid_records_estimate.specs.Collecting.{PassesMax};
 ghost use Rattle.grid_records_estimate.specs.Kept.{LeastSizes, least_sizes};
 ghost use Rattle.grid_records_estimate.specs.Room.{LeaveRoom};
 ghost use Rattle.grid_records_estimate.specs.Sizes.{table_heights, table_widths};
-ghost use Rattle.grid_records_estimate.specs.Sizing.{TableSizing, column_needs, compact_sizing, is_visible, row_needs, sizing_of};
+ghost use Rattle.grid_records_estimate.specs.Sizing.{TableSizing, around_height, around_width, column_needs, compact_sizing, height_need, is_visible, row_needs, sizing_of, width_need};
 ghost use Rattle.grid_records_estimate.specs.Totals.{total};
 ghost use Rattle.grid_records_estimate.specs.Worked.{table};
 
@@ -45,6 +48,17 @@ pub fn worked_estimates()
 pub fn worked_totals()
     ensures with_margins { total (4 ∷ 3 ∷ []) 3 1 2 ≡ 13 }
     ensures empty { total [] 1 5 6 ≡ 0 }
+{}
+
+/// What a cell needs, worked out by hand: of a text of 4 columns between paddings of 1 and 2, and of one of 2 lines
+/// between paddings of 3 and 4; and those paddings alone.
+pub fn needs_by_hand()
+    ensures width { (sizing : TableSizing) (place : CellPosition) (text : List ℕ) → text_width text ≡ 4 →
+        (sizing.padding place).left.size ≡ 1 → (sizing.padding place).right.size ≡ 2 → width_need sizing place text ≡ 7 }
+    ensures height { (sizing : TableSizing) (place : CellPosition) (text : List ℕ) → text_height text ≡ 2 →
+        (sizing.padding place).top.size ≡ 3 → (sizing.padding place).bottom.size ≡ 4 → height_need sizing place text ≡ 9 }
+    ensures sides { (padding : Sides Indent) → padding.left.size ≡ 1 → padding.right.size ≡ 2 → around_width padding ≡ 3 }
+    ensures ends { (padding : Sides Indent) → padding.top.size ≡ 3 → padding.bottom.size ≡ 4 → around_height padding ≡ 7 }
 {}
 
 /// Sizes and spans see the same cells: the test by which sizes are worked out is true of exactly the cells
