@@ -19,8 +19,8 @@ impl<'a> Rows<'a> {
     ghost use Rattle.basinmug_cells.specs.Held.{first_and_last, held};
     ghost use Rattle.basinmug_cells.specs.Selecting.{selected};
 
-    /// Keeps the first `first` rows that are ended, and of those after them the last `last`; those between take no memory any
-    /// more. The row that isn't ended stays.
+    /// Keeps the first `first` rows that are ended, and of those after them the last `last`. The row that isn't ended stays.
+    /// The texts of cells' own of the rows between are freed, where a list of the others can be allocated. Capacity stays.
     pub fn keep_ends(&mut self, first: usize, last: usize)
         ensures { self.new ≡ record self.old { rows = first_and_last first last self.old.rows } }
     {

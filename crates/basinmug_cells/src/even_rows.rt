@@ -3,13 +3,11 @@ ghost use Rattle.std.specs.Prelude.{◌≡◌, Some, false, length};
 ghost use Rattle.grid_records_traits.specs.Rows.{text_at};
 ghost use Rattle.tabled_text.specs.Rows.{filled, longest};
 ghost use Rattle.basinmug_cells.specs.Fields.{field_text};
-ghost use Rattle.basinmug_cells.specs.Views.{view_rows};
 
 use crate::cell_rows::{CellRows, longest};
 use crate::even_left::{EvenRowsLeft, EvenSource};
 use crate::field::Field;
 use crate::rows::Rows;
-use crate::rows_view::RowsView;
 use grid_config_values::Position;
 use grid_records_traits::{
     Cell, ExactRecords, PeekableRecords, RecordColumns, RecordTexts, Records, SingleLineCell,
@@ -40,14 +38,6 @@ impl<'a> EvenRows<'a> {
         ensures { filled result.rows ≡ ⟦<EvenRows<'a> as RecordTexts>⟧.rows self.entry }
     {
         self.rows
-    }
-
-    /// The rows themselves, to look at. Does not allocate.
-    #[inline(always)]
-    pub fn view(&self) -> RowsView<'_>
-        ensures { filled (view_rows result) ≡ ⟦<EvenRows<'a> as RecordTexts>⟧.rows self.now }
-    {
-        self.rows.view()
     }
 
     // The cell at this place, and an empty one where there is none.

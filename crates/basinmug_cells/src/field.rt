@@ -61,6 +61,13 @@ impl<'r> Cell for Field<'r> {
         }
     }
 
+    fn line_width(&self, index: usize) -> usize {
+        match self {
+            Field::Part(part) => part.text.line_width(index),
+            Field::Own(own) => own.line_width(index),
+        }
+    }
+
     #[inline(always)]
     fn single_line(&self) -> Option<SingleLineCell<'_>> {
         match self {

@@ -1,10 +1,8 @@
 //! A text of one line that is borrowed.
-ghost use Rattle.std.specs.Prelude.{◌≡◌, [], MatchOption, false, length, true};
+ghost use Rattle.std.specs.Prelude.{◌≡◌, [], length, true};
 ghost use Rattle.grid_records_measure.specs.Measures.{are_printable};
 ghost use Rattle.grid_records_traits.specs.Cells.{IsLineAt};
 ghost use Rattle.grid_records_traits.specs.SingleLines.{IsSingleLine};
-
-use grid_records_measure::is_printable;
 
 /// A text of one line, which is all of it, and the columns that it takes. It borrows the text.
 #[derive(Clone, Copy)]
@@ -44,19 +42,7 @@ impl<'a> SingleLine<'a> {
         SingleLine::of_printable("")
     }
 
-    /// A text of printable ASCII, of which each byte takes a column; none of another text. Does not allocate.
-    #[inline(always)]
-    pub fn printable(text: &'a str) -> Option<SingleLine<'a>>
-        ensures { MatchOption result (are_printable text.now ≡ false) (λ line. (line.text.now ≡ text.now) × (are_printable text.now ≡ true)) }
-    {
-        if is_printable(text) {
-            Some(SingleLine::of_printable(text))
-        } else {
-            None
-        }
-    }
-
-    /// The same of a text that is printable ASCII.
+    /// A text of printable ASCII, of which each byte takes a column. Does not allocate.
     #[inline(always)]
     pub fn of_printable(text: &'a str) -> SingleLine<'a>
         requires { are_printable text.now ≡ true }
