@@ -1,7 +1,8 @@
 //! The first records of a text.
-ghost use Rattle.std.specs.Prelude.{◌≡◌, ◌≤◌, ℕ, false, IfOk, IfSome, IsErrOf, length, option_copied, take};
-ghost use Rattle.tabled_output.specs.Counts.{FailsIff, OnlyReads, inner_of};
+ghost use Rattle.std.specs.Prelude.{◌≡◌, ◌≤◌, ℕ, false, IfOk, IfSome, IsErrOf, OnOk, length, option_copied, take};
+ghost use Rattle.tabled_output.specs.Counts.{FailsIff, HasGivenPieces, OnlyReads, inner_of};
 ghost use Rattle.tabled_output.specs.Streams.{ConsumesSome};
+ghost use Rattle.basinmug_head.specs.Blocks.{HasGivenAtMost};
 ghost use Rattle.basinmug_head.specs.Heads.{IsHeadIn, IsHeadOf, asked_or_found, records_of, records_read};
 ghost use Rattle.basinmug_head.specs.Walking.{IsWalked};
 
@@ -67,8 +68,8 @@ pub fn head_end(bytes: &[u8], found: Found, records: usize) -> usize
 
 /// The prefix of a text up to the end of so many records, or all of it where it has fewer; no more is read than the
 /// block in which the last of them ends, and, where no delimiter is requested, the one in which the first line does.
-/// It fails with `Read` at the first error of any kind, with `TooLong` where `limit` reads in a row came to no end,
-/// and with `Memory`.
+/// It fails with `Read` at the first error of any kind, with `TooLong` where `limit` reads gave bytes and more are
+/// needed, and with `Memory`.
 pub fn read_head<R: Read>(
     alloc: Global,
     reader: &mut Counted<R>,
@@ -80,12 +81,17 @@ pub fn read_head<R: Read>(
     ensures head { IfOk result (λ head. IfSome (R.remaining (inner_of reader.old)) (IsHeadOf asked (option_copied file.entry) records head.bytes.items head.found)) }
     ensures some_text { IfOk result (λ head. ConsumesSome (R.remaining (inner_of reader.old)) (R.remaining (inner_of reader.new))
         (IsHeadOf asked (option_copied file.entry) records head.bytes.items head.found)) }
+    ensures most { OnOk result (HasGivenAtMost reader.old reader.new limit) }
     ensures read { FailsIff (IsErrOf result ReadFault.Read) reader.old reader.new }
+    ensures too_long { IsErrOf result ReadFault.TooLong → HasGivenPieces reader.old reader.new limit }
+    ensures long_text { IsErrOf result ReadFault.TooLong →
+        ConsumesSome (R.remaining (inner_of reader.old)) (R.remaining (inner_of reader.new)) (λ bytes. limit ≤ length bytes) }
     ensures only_reads { OnlyReads reader.old reader.new }
 {
     let front = read_front(alloc, reader, asked, limit)?;
     let found = asked_or_found(asked, front.bytes.as_slice(), file);
-    let bytes = read_records(reader, front, found, records, limit)?;
+    let left = limit - front.reads;
+    let bytes = read_records(reader, front, found, records, left)?;
     Ok(Head { bytes, found })
 }
 
@@ -100,7 +106,11 @@ fn read_records<R: Read>(
     requires { found.start ≤ length front.bytes.items }
     ensures within { IfOk result (λ bytes. found.start ≤ length bytes.items) }
     ensures head { IfOk result (λ bytes. IsHeadIn (R.remaining (inner_of reader.old)) (R.remaining (inner_of reader.new)) found records front.bytes.items front.ended bytes.items) }
+    ensures most { OnOk result (HasGivenAtMost reader.old reader.new limit) }
     ensures read { FailsIff (IsErrOf result ReadFault.Read) reader.old reader.new }
+    ensures too_long { IsErrOf result ReadFault.TooLong → HasGivenPieces reader.old reader.new limit }
+    ensures long_text { IsErrOf result ReadFault.TooLong →
+        ConsumesSome (R.remaining (inner_of reader.old)) (R.remaining (inner_of reader.new)) (λ bytes. limit ≤ length bytes) }
     ensures only_reads { OnlyReads reader.old reader.new }
 {
     let mut bytes = front.bytes;
@@ -128,7 +138,11 @@ fn read_on<R: Read>(
     requires { walk.found.start ≤ length bytes.items }
     ensures head { IfOk result (λ all. (records : ℕ) → IsWalked walk.found records bytes.items walk
         → IsHeadIn (R.remaining (inner_of reader.old)) (R.remaining (inner_of reader.new)) walk.found records bytes.items false all.items) }
+    ensures most { OnOk result (HasGivenAtMost reader.old reader.new limit) }
     ensures read { FailsIff (IsErrOf result ReadFault.Read) reader.old reader.new }
+    ensures too_long { IsErrOf result ReadFault.TooLong → HasGivenPieces reader.old reader.new limit }
+    ensures long_text { IsErrOf result ReadFault.TooLong →
+        ConsumesSome (R.remaining (inner_of reader.old)) (R.remaining (inner_of reader.new)) (λ bytes. limit ≤ length bytes) }
     ensures only_reads { OnlyReads reader.old reader.new }
 {
     let mut bytes = bytes;

@@ -1,5 +1,6 @@
 //! Heads of texts that were worked out by hand. The functions do nothing.
 ghost use Rattle.std.specs.Prelude.{◌≡◌, ◌∷◌, [], None, Some, codes, false, true};
+ghost use Rattle.basinmug_head.specs.Fronts.{TellsFields};
 ghost use Rattle.basinmug_head.specs.Heads.{IsHeadOf, asked_or_found, records_of, records_read};
 
 /// What separates the fields of bytes, by what is requested, by their first line, by a line that names it, and by the name
@@ -17,6 +18,14 @@ pub fn heads_by_hand()
     ensures by_name { asked_or_found None (codes "a|b") (Some (codes "x.tsv")) ≡ record { delimiter = 0x09; start = 0 } }
     ensures marked { records_of (record { delimiter = 0x2c; start = 0 }) (0xef ∷ 0xbb ∷ 0xbf ∷ codes "a,b") ≡ (codes "a" ∷ codes "b" ∷ []) ∷ [] }
     ensures asked_before_a_name { asked_or_found (Some 0x2c) (codes "sep=;\na") None ≡ record { delimiter = 0x2c; start = 0 } }
+{}
+
+/// Prefixes that say what separates the fields: any where that is requested, else those whose first line is whole.
+pub fn fronts_by_hand()
+    ensures requested { TellsFields (Some 0x2c) [] }
+    ensures whole { TellsFields None (codes "a;b\n") }
+    ensures not_whole { ¬ TellsFields None (codes "a;b") }
+    ensures nothing { ¬ TellsFields None [] }
 {}
 
 /// How many records are read where three below the header are requested, none, the greatest number, and no number.

@@ -1,5 +1,5 @@
 -- One block more is read.
-use Rattle.std.proofs.Common.{◌≡◌, ◌∙◌, ℕ, List, subst, sym, true}
+use Rattle.std.proofs.Common.{rules, ◌≡◌, ◌∙◌, ℕ, List, ap, arith, length, length-append, subst, sym, true}
 use Rattle.std.specs.Prelude.{Option, None, Some, is_some}
 use Rattle.std.proofs.KnownBytes.{Consumes-trans}
 use Rattle.std.proofs.lemmas.Bool.{false≢true}
@@ -23,7 +23,7 @@ returns-then-branch-eq0-clause-front g c =
     let block = c.in_ok-read_block.ensures.block in
     record {
       consumed = subst (λ (bytes : List ℕ). Consumes (g.R.Read.remaining (inner_of c.args.reader.now)) (g.R.Read.remaining (inner_of c.read_block.new.reader)) bytes) (sym block.appended)
-          (Consumes-trans _ _ _ _ _ c.loop.invariant.consumed block.consumed);
+          (Consumes-trans _ _ _ _ _ c.loop-reads.invariant.consumed block.consumed);
       told = (λ _. block.at_end c.if-branch-eq0.true, λ other. absurd (false≢true (sym other)));
     }
 
@@ -33,25 +33,31 @@ returns-then-is_some-clause-front g c =
     let known : IsKnownOf c.read_block.new.bytes.items c.with-line.result = subst (λ (bytes : List ℕ). IsKnownOf bytes c.with-line.result) c.as_slice.ensures.value c.with-line.ensures in
     record {
       consumed = subst (λ (bytes : List ℕ). Consumes (g.R.Read.remaining (inner_of c.args.reader.now)) (g.R.Read.remaining (inner_of c.read_block.new.reader)) bytes) (sym block.appended)
-          (Consumes-trans _ _ _ _ _ c.loop.invariant.consumed block.consumed);
+          (Consumes-trans _ _ _ _ _ c.loop-reads.invariant.consumed block.consumed);
       told = (
         λ other. absurd (false≢true other),
         λ _. elim c.then-is_some.branch [
           | then-is_some-via-then-is_some w ↦ told-asked c.args.asked c.read_block.new.bytes.items (sym c.is_some.ensures ∙ w.if-is_some.true)
           | then-is_some-via-else-is_some+then-is_whole w ↦
-              told-whole c.args.asked c.read_block.new.bytes.items (w.is_whole.ensures c.read_block.new.bytes.items known w.if-is_whole.true)
+              told-whole c.args.asked c.read_block.new.bytes.items ((w.is_whole.ensures c.read_block.new.bytes.items known).0 w.if-is_whole.true)
         ],
       );
     }
 
-pub loop-preserved : goal.loop-preserved
-loop-preserved g c =
+pub loop-reads-preserved : goal.loop-reads-preserved
+loop-reads-preserved g c =
     let block = c.in_ok-read_block.ensures.block in
-    let known = c.loop.invariant in
+    let known = c.loop-reads.invariant in
     let reads = c.read_block.ensures.only_reads in
+    let long = ap length block.appended ∙ length-append c.loop-reads.bytes.items block.block in
+    let counted = block.counted in
+    let some = c.if-branch-eq0.false in
+    let enough = known.enough in
     record {
       consumed = subst (λ (bytes : List ℕ). Consumes (g.R.Read.remaining (inner_of c.args.reader.now)) (g.R.Read.remaining (inner_of c.read_block.new.reader)) bytes) (sym block.appended)
           (Consumes-trans _ _ _ _ _ known.consumed block.consumed);
+      enough = omega (arith, long, counted, some, enough);
+      pieces_read = search rules;
       known = subst (λ (bytes : List ℕ). IsKnownOf bytes c.with-line.result) c.as_slice.ensures.value c.with-line.ensures;
       failures = (rw c.in_ok-read_block.was at c.read_block.ensures.read).others (λ e. cc e) ∙ known.failures;
       only_reads = record {

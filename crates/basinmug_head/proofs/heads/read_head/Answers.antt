@@ -1,10 +1,12 @@
 -- The prefix and what is read after it are the head of a text.
-use Rattle.std.proofs.Common.{◌≡◌, ◌∙◌, ◌⊎◌, ◌++◌, inl, inr, ℕ, List, [], Bool, ap, refl, subst, sym, false, true}
-use Rattle.std.specs.Io.KnownBytes.{IsAtEnd}
+use Rattle.std.proofs.Common.{rules, ◌≡◌, ◌∙◌, ◌⊎◌, ◌≤◌, ◌<◌, ◌+◌, ◌-◌, ◌%◌, ◌^◌, ◌++◌, IsErrOf, arith, length, length-append, inl, inr, ℕ, List, [], Bool, ap, refl, subst, sym, false, true}
+use Rattle.std.specs.Io.KnownBytes.{Consumes, IsAtEnd}
 use Rattle.std.specs.Prelude.{IfSome, Option, None, Some, option_copied}
 use Rattle.std.proofs.KnownBytes.{Consumes-trans}
 use Rattle.std.proofs.lemmas.List.{append-nil}
-use Rattle.tabled_output.specs.Counts.{inner_of}
+use Rattle.tabled_output.specs.Counts.{inner_of, pieces_read_of}
+use Rattle.tabled_output.specs.Streams.{ConsumesSome}
+use Rattle.tabled_output.specs.declared.reading.ReadFault.TheVariants.{TooLong}
 use Rattle.basinmug_delimiter.specs.declared.Found.{Found}
 use Rattle.basinmug_head.specs.Fronts.{IsFront, TellsFields}
 use Rattle.basinmug_head.specs.Heads.{IsCut, IsHeadIn, IsHeadOf, IsWhole, asked_or_found}
@@ -56,3 +58,25 @@ returns-clause-some_text g c =
           (told-by c.args.asked mid front head.more [] ended fronts.told head.no_more (λ _. refl))
           (kept-by found c.args.records all c.in_ok-bytes.bytes.items [] mid new ended fronts.told.0 (λ _. refl) (λ _. refl) head.kept)),
     )
+
+-- what the reader gave in all
+both-long : (old mid new : Option (List ℕ)) (front : List ℕ) (reads limit : ℕ) → Consumes old mid front → reads ≤ length front → reads ≤ limit → ConsumesSome mid new (λ more. limit - reads ≤ length more)
+    → ConsumesSome old new (λ bytes. limit ≤ length bytes)
+both-long old mid new front reads limit first some most (more, then, enough) =
+    let long = length-append front more in (front ++ more, Consumes-trans _ _ _ _ _ first then, omega (arith, long, some, most, enough))
+
+pub returns-in_err-bytes-clause-long_text : goal.returns-in_err-bytes-clause-long_text
+returns-in_err-bytes-clause-long_text g c = λ long.
+    let told : IsErrOf c.read_records.result TooLong = search rules in
+    both-long (g.R.Read.remaining (inner_of c.args.reader.now)) (g.R.Read.remaining (inner_of c.read_front.new.reader)) (g.R.Read.remaining (inner_of c.read_records.new.reader))
+    c.in_ok-front.front.bytes.items c.in_ok-front.front.reads c.args.limit
+    c.in_ok-front.ensures.front.consumed c.in_ok-front.ensures.some_text c.in_ok-front.ensures.most (c.read_records.ensures.long_text told)
+
+both-most : (before mid after reads limit : ℕ) → before < 2 ^ 64 → reads ≤ limit → mid ≡ (before + reads) % 2 ^ 64 → (n : ℕ) × (n ≤ limit - reads) × (after ≡ (mid + n) % 2 ^ 64)
+    → (n : ℕ) × (n ≤ limit) × (after ≡ (before + n) % 2 ^ 64)
+both-most before mid after reads limit below most first (n, few, then) = (reads + n, omega (arith, most, few), omega (arith, below, first, then))
+
+pub returns-clause-most : goal.returns-clause-most
+returns-clause-most g c =
+    both-most (pieces_read_of c.args.reader.now) (pieces_read_of c.read_front.new.reader) (pieces_read_of c.read_records.new.reader) c.in_ok-front.front.reads c.args.limit
+    c.args.reader.now.in_range c.in_ok-front.ensures.most c.in_ok-front.ensures.reads c.in_ok-bytes.ensures.most

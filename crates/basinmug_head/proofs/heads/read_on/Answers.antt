@@ -1,5 +1,5 @@
 -- One block more is read.
-use Rattle.std.proofs.Common.{◌≡◌, ◌∙◌, ◌++◌, ◌≤◌, ℕ, List, [], ◌∷◌, ap, arith, length, length-append, refl, subst, sym, take, false}
+use Rattle.std.proofs.Common.{rules, ◌≡◌, ◌∙◌, ◌+◌, ◌++◌, ◌≤◌, ℕ, List, [], ◌∷◌, ap, arith, length, length-append, refl, subst, sym, take, false}
 use Rattle.std.proofs.KnownBytes.{Consumes-trans}
 use Rattle.std.proofs.lemmas.Bool.{false≢true}
 use Rattle.std.proofs.lemmas.List.{append-nil, append_assoc}
@@ -62,6 +62,9 @@ returns-in-End-clause-head g c =
     (block.appended ∙ (ap (λ (of : List ℕ). of ++ block.block) known.grown ∙ append_assoc c.args.bytes.items known.more block.block))
     ends c.truncate.ensures.items
 
+pub returns-in-End-clause-most : goal.returns-in-End-clause-most
+returns-in-End-clause-most g c = (c.loop.counter + 1, search rules, search rules)
+
 pub loop-preserved : goal.loop-preserved
 loop-preserved g c =
     let known = c.loop.invariant in
@@ -74,8 +77,14 @@ loop-preserved g c =
     let front = before-block old block.block new slice c.len-from.result block.appended c.as_slice.ensures.value (c.len-from.ensures ∙ c.loop.bytes.ok.0) in
     let long = ap length block.appended ∙ length-append old block.block in
     let within = known.within in
+    let longer = length-append known.more block.block in
+    let counted = block.counted in
+    let some = c.if-branch-eq0.false in
+    let enough = known.enough in
     record {
       more = known.more ++ block.block;
+      enough = omega (arith, longer, counted, some, enough);
+      pieces_read = search rules;
       consumed = Consumes-trans _ _ _ _ _ known.consumed block.consumed;
       grown = block.appended ∙ (ap (λ (of : List ℕ). of ++ block.block) known.grown ∙ append_assoc c.args.bytes.items known.more block.block);
       found = subst (λ (step : Step). KeepsFound c.loop.walk.found step) c.in-On.is c.with.ensures.found ∙ known.found;

@@ -1,7 +1,7 @@
--- The reader gave these bytes after those that were there, and all are walked over.
-use Rattle.std.proofs.Common.{◌≡◌, ◌≤◌, ◌++◌, List, ℕ, length}
+-- The reader gave these bytes after those that were there, some at each read, and all are walked over.
+use Rattle.std.proofs.Common.{◌≡◌, ◌≤◌, ◌+◌, ◌%◌, ◌^◌, ◌++◌, List, ℕ, length}
 use Rattle.std.specs.Io.KnownBytes.{Consumes}
-use Rattle.tabled_output.specs.Counts.{OnlyReads, failures_of, inner_of}
+use Rattle.tabled_output.specs.Counts.{OnlyReads, failures_of, inner_of, pieces_read_of}
 use Rattle.basinmug_head.specs.Walking.{IsWalked}
 use Rattle.basinmug_head.proofs.heads.read_on.Given as goal
 
@@ -9,6 +9,8 @@ abbrev pub invariant-loop : goal.invariant-loop
 invariant-loop g l = record {
   more : List ℕ;
   consumed : Consumes (g.R.Read.remaining (inner_of l.initial.reader)) (g.R.Read.remaining (inner_of l.reader)) more;
+  enough : l.counter ≤ length more;
+  pieces_read : pieces_read_of l.reader ≡ (pieces_read_of l.initial.reader + l.counter) % 2 ^ 64;
   grown : l.bytes.items ≡ l.fn.bytes.items ++ more;
   found : l.walk.found ≡ l.fn.walk.found;
   within : l.fn.walk.found.start ≤ length l.bytes.items;
