@@ -1,5 +1,5 @@
 //! The first line of a text whose bytes come one block after the other.
-ghost use Rattle.std.specs.Prelude.{◌≡◌, ◌≤◌, List, ℕ, IsTrue, [], length, take, true};
+ghost use Rattle.std.specs.Prelude.{◌≡◌, ◌≤◌, ◌↔◌, List, ℕ, IsTrue, [], length, take, true};
 ghost use Rattle.basinmug_delimiter.specs.FirstLines.{HasFirstLine, IsKnownOf};
 ghost use Rattle.basinmug_delimiter.specs.States.{state_after};
 
@@ -41,7 +41,7 @@ impl FirstLine {
 
     /// Whether the first line has ended, so that no byte that comes later changes what is found.
     pub fn is_whole(self) -> bool
-        ensures { (bytes : List ℕ) → IsKnownOf bytes self → IsTrue result → HasFirstLine bytes }
+        ensures { (bytes : List ℕ) → IsKnownOf bytes self → (IsTrue result ↔ HasFirstLine bytes) }
     {
         match self.stand {
             Some(stand) => stand.is_ended(),

@@ -41,6 +41,12 @@ pub fn first_lines_by_hand()
     ensures quoted_behind_a_bar { delimiter_in (codes "a|\"b,c,d\"") ≡ 0x7c }
     ensures quoted_tab { delimiter_in (codes "\"a\tb\",c") ≡ 0x2c }
     ensures digit_behind_a_sequence { delimiter_in (0x31 ∷ 0x1b ∷ codes "[m,5;6") ≡ 0x2c }
+    ensures behind_a_quoted_field { delimiter_in (codes "\"a\";\"b\"") ≡ 0x3b }
+    ensures first_byte { delimiter_in (codes ";a") ≡ 0x3b }
+    ensures empty_fields { delimiter_in (codes "a;;b,c") ≡ 0x3b }
+    ensures digit_before_a_comma { delimiter_in (codes "no1,b;c") ≡ 0x2c }
+    ensures digit_after_a_comma { delimiter_in (codes "a,1;b") ≡ 0x2c }
+    ensures quotes_in_a_field { delimiter_in (codes "a \"b;c;d\",e") ≡ 0x3b }
 {}
 
 /// Names of files, and whether they say that tabs separate fields.
@@ -71,6 +77,10 @@ pub fn found_by_hand()
     ensures names_a_quote { found_in (codes "sep=\"\na") None ≡ record { delimiter = 0x2c; start = 0 } }
     ensures second_line { found_in (codes "\nsep=;\na") None ≡ record { delimiter = 0x3b; start = 0 } }
     ensures names_a_return { found_in (codes "sep=\r\na|b") None ≡ record { delimiter = 0x2c; start = 0 } }
+    ensures half_a_mark { found_in (0xef ∷ 0xbb ∷ 0x3b ∷ []) None ≡ record { delimiter = 0x3b; start = 0 } }
+    ensures other_second_byte { found_in (0xef ∷ 0x3b ∷ 0xbf ∷ []) None ≡ record { delimiter = 0x3b; start = 0 } }
+    ensures other_first_byte { found_in (0x3b ∷ 0xbb ∷ 0xbf ∷ []) None ≡ record { delimiter = 0x3b; start = 0 } }
+    ensures capital { found_in (codes "Sep=;\na|b") None ≡ record { delimiter = 0x3b; start = 0 } }
     ensures names_no_ascii { found_in (codes "sep=" ++ 0xa7 ∷ codes "\na|b") None ≡ record { delimiter = 0x2c; start = 0 } }
 {}
 
@@ -87,6 +97,15 @@ pub fn sequences_by_hand()
 /// What is found in bytes that have the first line whole is found in each text that begins with them.
 pub fn first_lines_tell()
     ensures { (front rest : List ℕ) (file : Option (List ℕ)) → HasFirstLine front → found_in (front ++ rest) file ≡ found_in front file }
+{}
+
+/// Prefixes of texts, and whether their first line is whole.
+pub fn whole_lines_by_hand()
+    ensures whole { HasFirstLine (codes "a;b\n") }
+    ensures not_ended { ¬ HasFirstLine (codes "a;b") }
+    ensures in_quotes { ¬ HasFirstLine (codes "\"a\n") }
+    ensures half_a_mark { ¬ HasFirstLine (0xef ∷ 0xbb ∷ []) }
+    ensures blank { ¬ HasFirstLine (codes "\r\n\n") }
 {}
 
 /// Prefixes of texts, and whether they show if a byte order mark is at the start.
