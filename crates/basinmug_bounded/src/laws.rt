@@ -1,15 +1,19 @@
 //! Laws of the definitions that the contracts cite, and cells, requests and outcomes worked by hand. The functions do nothing.
-ghost use Rattle.std.specs.Prelude.{◌≡◌, ◌∷◌, ◌*◌, ℕ, List, [], Option, None, Some, Ok, Err, codes, false, take, true};
+ghost use Rattle.std.specs.Prelude.{◌≡◌, ◌∷◌, ◌*◌, ℕ, List, [], Option, None, Some, Result, Ok, Err, codes, false, take, true};
 ghost use Rattle.std.specs.List.{AllByRecursion};
-ghost use Rattle.basinmug_bounded.specs.Answers.{ReportsCells, ReportsText, answers};
+ghost use Rattle.basinmug_bounded.specs.Answers.{IsCellsOutcome, IsOutcome, ReportsCells, ReportsText, answers};
+ghost use Rattle.basinmug_bounded.specs.CellOutputs.{IsCellsPrinted};
 ghost use Rattle.basinmug_bounded.specs.Cells.{AreRecords, AreWhole, AreWholeRows, Given, cells_in, cells_read, fault_at, given};
-ghost use Rattle.basinmug_bounded.specs.Lists.{Texts, list_in};
+ghost use Rattle.basinmug_bounded.specs.Lists.{Texts, list_in, texts};
 ghost use Rattle.basinmug_bounded.specs.Outputs.{most_of};
 ghost use Rattle.basinmug_bounded.specs.Requests.{delimiter_in, first_fault, head_in, number_in, all_escapes, all_rules, columns_shown, line_styles, priorities};
 ghost use Rattle.basinmug_bounded.specs.Worked.{AreOfFault, HasFault, IsReportedBy, greatest, numbers, zeros, other_numbers, some_numbers};
+ghost use Rattle.basinmug_bounded.specs.Texts.{AreReadOf, IsTextPrinted};
 ghost use Rattle.basinmug_bounded.specs.declared.answer.PrintAnswer.{PrintAnswer as Reported};
+ghost use Rattle.basinmug_bounded.specs.declared.printing.Size.{Size};
 ghost use Rattle.basinmug_bounded.specs.declared.refusal.CellFault.TheVariants as cell;
 ghost use Rattle.basinmug_bounded.specs.declared.refusal.ListFault.TheVariants as list;
+ghost use Rattle.basinmug_bounded.specs.declared.refusal.Refusal.{Refusal};
 ghost use Rattle.basinmug_bounded.specs.declared.refusal.Refusal.TheVariants.{Request as OfRequest, List as OfList, Cell as OfCell, Run as OfRun, OverMaxSize as Over};
 ghost use Rattle.basinmug_bounded.specs.declared.request.PrintRequest.{PrintRequest as Asked};
 ghost use Rattle.basinmug_bounded.specs.declared.request.RequestFault.{RequestFault as AskedFault};
@@ -20,9 +24,13 @@ ghost use Rattle.basinmug_run.specs.declared.fault.RunFault.TheVariants.{Input a
 ghost use Rattle.basinmug_run.specs.declared.picture.fault.PrintFault.TheVariants as print;
 ghost use Rattle.grid_config_values.specs.declared.fault.Fault.TheVariants as table;
 ghost use Rattle.tabled_output.specs.declared.building.BuildFault.TheVariants as build;
-ghost use Rattle.basinmug_bounded.specs.Meant.{AreOptionsOf};
+ghost use Rattle.basinmug_bounded.specs.Meant.{AreOptionsOf, IsFirstBadList, alignments_in, colors_in, columns_in};
 ghost use Rattle.basinmug_run.specs.declared.options.Options.{Options as Meant};
 ghost use Rattle.basinmug_run.specs.declared.options.ColumnsShown.TheVariants.{All as AllShown, Fitting};
+ghost use Rattle.basinmug_values.specs.Choices.{Single};
+ghost use Rattle.basinmug_values.specs.Lists.{Numbered};
+ghost use Rattle.grid_config_values.specs.declared.alignment.AlignmentHorizontal.TheVariants.{Right as AtRight};
+ghost use Rattle.program_options.specs.ColorList.Names.{color_of_texts};
 ghost use Rattle.program_options.specs.declared.basinmug.Escapes.TheVariants.{Colors, All as AllEscapes, None as NoEscapes};
 ghost use Rattle.program_options.specs.declared.basinmug.LineStyle.TheVariants.{Ascii, Modern, Rounded, Extended, Markdown, Empty};
 ghost use Rattle.program_options.specs.declared.basinmug.Rules.TheVariants.{Header as BelowHeader, All as AllRules, None as NoRules};
@@ -124,7 +132,13 @@ pub fn outcomes_by_number()
     ensures range { IsReportedBy (Err (OfRun (OfPrint (print.Table (build.Table table.Range))))) 3 (answers 0 0 0 0 0 0) }
     ensures line_too_wide { (row column : ℕ) → IsReportedBy (Err (OfRun (OfPrint (print.Table (build.Table (table.Room row column)))))) 4 (answers 0 0 0 0 row column) }
     ensures memory { IsReportedBy (Err (OfRun NoMemory)) 5 (answers 0 0 0 0 0 0) }
+    ensures memory_to_read { IsReportedBy (Err (OfRun (OfInput input.Memory))) 5 (answers 0 0 0 0 0 0) }
+    ensures memory_to_print { IsReportedBy (Err (OfRun (OfPrint print.Memory))) 5 (answers 0 0 0 0 0 0) }
+    ensures memory_for_a_table { IsReportedBy (Err (OfRun (OfPrint (print.Table (build.Table table.Memory))))) 5 (answers 0 0 0 0 0 0) }
     ensures quote { (line : ℕ) → IsReportedBy (Err (OfRun (OfInput (input.Quote line)))) 10 (answers 0 0 line 0 0 0) }
+    ensures write { IsReportedBy (Err (OfRun (OfPrint (print.Table build.Write)))) 8 (answers 0 0 0 0 0 0) }
+    ensures write_zero { IsReportedBy (Err (OfRun (OfPrint (print.Table build.WriteZero)))) 9 (answers 0 0 0 0 0 0) }
+    ensures no_column { (name : _) → IsReportedBy (Err (OfRun (OfPrint (print.NoColumn name)))) 11 (answers 0 0 0 0 0 0) }
     ensures spans { IsReportedBy (Err (OfRun (OfPrint (print.Table (build.Table table.Spans))))) 12 (answers 0 0 0 0 0 0) }
     ensures over { IsReportedBy (Err Over) 13 (answers 0 0 0 0 0 0) }
     ensures size { IsReportedBy (Err (OfRequest fault.Size)) 33 (answers 0 0 0 0 0 0) }
@@ -177,6 +191,7 @@ pub fn options_by_number()
     ensures width { (lists : Texts) (options : Meant) → AreOptionsOf some_numbers lists options → options.width ≡ Some 60 }
     ensures tail { (lists : Texts) (options : Meant) → AreOptionsOf some_numbers lists options → options.tail ≡ Some 5 }
     ensures no_first { (lists : Texts) (options : Meant) → AreOptionsOf some_numbers lists options → options.max_rows ≡ None }
+    ensures first_rows { (lists : Texts) (options : Meant) → AreOptionsOf (record some_numbers { max_rows = 7 }) lists options → options.max_rows ≡ Some 7 }
     ensures header { (lists : Texts) (options : Meant) → AreOptionsOf other_numbers lists options → options.header ≡ true }
     ensures markdown { (lists : Texts) (options : Meant) → AreOptionsOf other_numbers lists options → options.line_style ≡ Markdown }
     ensures no_rules { (lists : Texts) (options : Meant) → AreOptionsOf other_numbers lists options → options.rules ≡ NoRules }
@@ -189,4 +204,26 @@ pub fn options_by_number()
     ensures no_tail { (lists : Texts) (options : Meant) → AreOptionsOf other_numbers lists options → options.tail ≡ None }
     ensures some_mean { first_fault some_numbers ≡ None }
     ensures others_mean { first_fault other_numbers ≡ None }
+{}
+
+/// Three lists, and what each says. The first that does not have the form, where the others do not either.
+pub fn lists_by_hand()
+    ensures columns { columns_in (texts (codes "2,0") (codes "1=right") (codes "0=red")) ≡ Some (Single (Numbered 2) ∷ Single (Numbered 0) ∷ []) }
+    ensures alignments { alignments_in (texts (codes "2,0") (codes "1=right") (codes "0=red")) ≡ Some ((Numbered 1, AtRight) ∷ []) }
+    ensures colors { colors_in (texts (codes "2,0") (codes "1=right") (codes "0=red"))
+        ≡ Some ((Numbered 0, color_of_texts (codes "\u{1b}[31m") (codes "\u{1b}[39m")) ∷ []) }
+    ensures first { IsFirstBadList (texts (codes "3-1") (codes "x") (codes "x")) list.Columns }
+    ensures second { IsFirstBadList (texts (codes "2") (codes "x") (codes "x")) list.Align }
+    ensures third { IsFirstBadList (texts (codes "2") (codes "1=right") (codes "x")) list.Color }
+{}
+
+/// What is read of a text and of cells of which a delimiter, three records and ten bytes are requested, and of a text of
+/// which one record below the header is.
+pub fn texts_by_hand()
+    ensures numbers { (lists : Texts) (text old new : List ℕ) (size : Size) → IsOutcome (record some_numbers { head = 3; max_size = 10 }) lists text old new (Ok size) →
+        (options : Meant) × IsTextPrinted options (Some 59) (Some 3) text 10 old new (Ok size) }
+    ensures cells { (lists : Texts) (all : Given) (old new : List ℕ) (size : Size) → IsCellsOutcome (record some_numbers { head = 3; max_size = 10 }) lists all old new (Ok size) →
+        (options : Meant) × IsCellsPrinted options (Some 3) all 10 old new (Ok size) }
+    ensures header { (options : Meant) (text old new : List ℕ) (outcome : Result Size Refusal) → options.header ≡ true →
+        IsTextPrinted options (Some 59) (Some 1) text greatest old new outcome → (bytes : List ℕ) × AreReadOf (Some 59) (Some 2) text bytes }
 {}

@@ -1,8 +1,10 @@
 //! Lists and delimiters worked by hand. The functions do nothing.
 ghost use Rattle.std.specs.Prelude.{◌≡◌, ◌∷◌, [], None, Some, codes, false, true};
-ghost use Rattle.basinmug_values.specs.Choices.{Single, Through, chosen_listed};
+ghost use Rattle.program_options.specs.declared.basinmug.ColumnChoice.TheVariants.{One, Range};
+ghost use Rattle.program_options.specs.declared.basinmug.ColumnName.TheVariants.{Number};
+ghost use Rattle.basinmug_values.specs.Choices.{Single, Through, chosen_listed, chosen_of};
 ghost use Rattle.basinmug_values.specs.Delimiters.{can_delimit};
-ghost use Rattle.basinmug_values.specs.Lists.{Numbered, Titled, listed};
+ghost use Rattle.basinmug_values.specs.Lists.{Numbered, Titled, column_of_name, listed, seen_items};
 ghost use Rattle.basinmug_values.specs.Names.{alignment_named};
 ghost use Rattle.grid_config_values.specs.declared.alignment.AlignmentHorizontal.TheVariants.{Left, Center, Right};
 
@@ -41,4 +43,12 @@ pub fn delimiters_by_hand()
     ensures quote { can_delimit 0x22 ≡ false }
     ensures line_feed { can_delimit 0x0a ≡ false }
     ensures carriage_return { can_delimit 0x0d ≡ false }
+{}
+
+/// Columns, choices and a list in memory, and what they say.
+pub fn columns_in_memory_by_hand()
+    ensures number { column_of_name (Number 7) ≡ Numbered 7 }
+    ensures one { chosen_of (One (Number 2)) ≡ Single (Numbered 2) }
+    ensures range { chosen_of (Range 3 5) ≡ Through 3 5 }
+    ensures list { seen_items ((Number 0, Left) ∷ (Number 1, Right) ∷ []) ≡ (Numbered 0, Left) ∷ (Numbered 1, Right) ∷ [] }
 {}

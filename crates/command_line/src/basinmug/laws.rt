@@ -1,20 +1,23 @@
 //! Command lines worked by hand: what the command makes of their arguments. The functions do nothing.
-ghost use Rattle.std.specs.Prelude.{◌≡◌, ◌∷◌, ℕ, List, [], Option, Some, None, codes, false, true, string_bytes};
+ghost use Rattle.std.specs.Prelude.{◌≡◌, ◌∷◌, ℕ, List, [], Option, Some, None, Ok, Err, codes, false, true, map, option_map, string_bytes};
+ghost use Rattle.std.specs.Io.BufRead.{ends_with_byte};
 ghost use Rattle.std.specs.List.{AllByRecursion};
 ghost use Rattle.papergrid_picture.specs.Colors.ClosingColors.{IsClosing};
 ghost use Rattle.clap.specs.declared.error.kind.ErrorKind.TheVariants.{ArgumentConflict, DisplayHelp, DisplayVersion, InvalidValue, UnknownArgument};
 ghost use Rattle.program_options.specs.ColorList.Listed.{color_of_name};
 ghost use Rattle.program_options.specs.ColorList.Names.{color_of_texts};
-ghost use Rattle.command_line.specs.Basinmug.Asking.{IsRead, alignments_asked, asked_table_width, colors_asked, columns_asked, delimiter_asked, file_asked, refusal_of, rows_asked, tail_asked, width_asked};
+ghost use Rattle.command_line.specs.Basinmug.Asking.{IsRead, IsTold, alignments_asked, asked_table_width, colors_asked, columns_asked, delimiter_asked, file_asked, refusal_of, rows_asked, tail_asked, width_asked};
 ghost use Rattle.command_line.specs.Basinmug.Command.{IsBasinmug};
-ghost use Rattle.basinmug_values.specs.Choices.{Single, Through};
-ghost use Rattle.basinmug_values.specs.Lists.{Numbered, Titled};
+ghost use Rattle.basinmug_values.specs.Choices.{Single, Through, chosen_of};
+ghost use Rattle.basinmug_values.specs.Lists.{Numbered, Titled, seen_items};
+ghost use Rattle.command_line.specs.Options.Given.{is_wanted};
 ghost use Rattle.command_line.specs.Options.Names.{named};
 ghost use Rattle.command_line.specs.Basinmug.Names.{escapes, line_styles, priorities, rules};
 ghost use Rattle.command_line.specs.declared.basinmug.words.Plan.{Plan as Read};
+ghost use Rattle.command_line.specs.declared.basinmug.words.ReadWords.TheVariants.{BadWords};
 ghost use Rattle.command_line.specs.Basinmug.Worked.{Finds, GivesValues, basinmug_by_hand, by_names};
 ghost use Rattle.tabled_size_priority.specs.Choices.{IsShrunkByChoice};
-ghost use Rattle.command_line.specs.Ending.{said_of, status_of, unread_for};
+ghost use Rattle.command_line.specs.Ending.{ended_by, said_of, status_of, unread_for};
 ghost use Rattle.command_line.specs.declared.ending.Ending.TheVariants.{Done, Failed, Memory, Faulty, NotUtf8};
 ghost use Rattle.std.specs.declared.io.ErrorKind.TheVariants.{InvalidData, OutOfMemory};
 
@@ -28,11 +31,13 @@ pub fn the_command_is_basinmug()
     ensures { IsBasinmug basinmug_by_hand }
 {}
 
-/// Lines that request a run, with some of the values that they give.
+/// Lines that request a run, with the values that they give for these options.
 pub fn words_are_taken()
-    ensures nothing { GivesValues [] (codes "file" ∷ codes "escapes" ∷ codes "width" ∷ codes "style" ∷ codes "priority" ∷ codes "rules" ∷ codes "truncate" ∷ [])
-        (None ∷ Some (codes "colors") ∷ None ∷ Some (codes "rounded") ∷ Some (codes "max") ∷ Some (codes "header") ∷ Some (codes "false") ∷ []) }
-    ensures file { GivesValues (codes "notes.csv" ∷ []) (codes "file" ∷ []) (Some (codes "notes.csv") ∷ []) }
+    ensures nothing { GivesValues [] (codes "file" ∷ codes "escapes" ∷ codes "width" ∷ codes "style" ∷ codes "priority" ∷ codes "rules" ∷ codes "truncate"
+        ∷ codes "delimiter" ∷ codes "no-header" ∷ codes "all-columns" ∷ codes "columns" ∷ codes "align" ∷ codes "color" ∷ codes "max-rows" ∷ codes "head" ∷ codes "tail" ∷ codes "expanded" ∷ [])
+        (None ∷ Some (codes "colors") ∷ None ∷ Some (codes "rounded") ∷ Some (codes "max") ∷ Some (codes "header") ∷ Some (codes "false")
+        ∷ None ∷ Some (codes "false") ∷ Some (codes "false") ∷ None ∷ None ∷ None ∷ None ∷ None ∷ None ∷ Some (codes "false") ∷ []) }
+    ensures file { GivesValues (codes "notes.csv" ∷ codes "--columns=2,0" ∷ []) (codes "file" ∷ codes "columns" ∷ []) (Some (codes "notes.csv") ∷ Some (codes "2,0") ∷ []) }
     ensures dash { GivesValues (codes "-" ∷ []) (codes "file" ∷ []) (Some (codes "-") ∷ []) }
     ensures behind { GivesValues (codes "--" ∷ codes "--x" ∷ []) (codes "file" ∷ []) (Some (codes "--x") ∷ []) }
     ensures mixed { GivesValues (codes "--width" ∷ codes "60" ∷ codes "notes.csv" ∷ codes "--expanded" ∷ []) (codes "file" ∷ codes "width" ∷ codes "expanded" ∷ [])
@@ -95,6 +100,7 @@ pub fn values_by_hand()
     ensures any_width { width_asked (Some (codes "none")) ≡ Some WidthAsked.None }
     ensures environment { asked_table_width None None ≡ Some WidthAsked.Environment }
     ensures markdown { asked_table_width (Some (codes "markdown")) None ≡ Some WidthAsked.None }
+    ensures markdown_of_any_width { asked_table_width (Some (codes "markdown")) (Some (codes "none")) ≡ Some WidthAsked.None }
     ensures max { named priorities Choice.None (Some (codes "max")) ≡ Choice.MaxRight }
     ensures min { named priorities Choice.None (Some (codes "min")) ≡ Choice.MinRight }
     ensures left { named priorities Choice.None (Some (codes "left")) ≡ Choice.Left }
@@ -199,9 +205,24 @@ pub fn options_by_hand()
     ensures no_tail { (plan : Read) → IsRead (λ _. None) plan → plan.tail ≡ None }
     ensures all_rows { (plan : Read) → IsRead (λ _. None) plan → plan.options.max_rows ≡ None }
     ensures environment { (plan : Read) → IsRead (λ _. None) plan → plan.width ≡ WidthAsked.Environment }
+    ensures not_cut { (plan : Read) → IsRead (by_names ((codes "truncate", codes "false") ∷ [])) plan → plan.options.truncate ≡ false }
+    ensures file { (plan : Read) → IsRead (by_names ((codes "file", codes "a.csv") ∷ [])) plan → option_map string_bytes plan.file ≡ Some (codes "a.csv") }
+    ensures columns { (plan : Read) → IsRead (by_names ((codes "columns", codes "2,0") ∷ [])) plan → map chosen_of plan.options.columns.items ≡ Single (Numbered 2) ∷ Single (Numbered 0) ∷ [] }
+    ensures alignments { (plan : Read) → IsRead (by_names ((codes "align", codes "1=right") ∷ [])) plan → seen_items plan.options.alignments.items ≡ (Numbered 1, AlignmentHorizontal.Right) ∷ [] }
+    ensures colors { (plan : Read) → IsRead (by_names ((codes "color", codes "1=red") ∷ [])) plan → seen_items plan.options.colors.items ≡ (Numbered 1, color_of_texts (codes "\u{1b}[31m") (codes "\u{1b}[39m")) ∷ [] }
+    ensures room { (plan : Read) → IsRead (λ _. None) plan → plan.options.width ≡ None }
 {}
 
-/// The status of each ending, and what is said of it on standard error.
+/// Which kinds of what the command finds are requests for a text; a message on an error ends with a line feed.
+pub fn wanted_texts_by_hand()
+    ensures help { is_wanted DisplayHelp ≡ true }
+    ensures version { is_wanted DisplayVersion ≡ true }
+    ensures unknown { is_wanted UnknownArgument ≡ false }
+    ensures no_value { is_wanted InvalidValue ≡ false }
+    ensures line_feed { (text : _) → IsTold UnknownArgument (BadWords text) → ends_with_byte 0x0a (string_bytes text) ≡ true }
+{}
+
+/// The status of each ending, what is said of it on standard error, and how a run ends.
 pub fn endings_by_hand()
     ensures done { status_of {F = ℕ} Done ≡ 0 }
     ensures failed { status_of {F = ℕ} (Failed 7) ≡ 1 }
@@ -213,6 +234,9 @@ pub fn endings_by_hand()
     ensures out_of_memory { said_of {F = ℕ} (codes "columns") (λ _. None) Memory ≡ Some (codes "columns: out of memory\n") }
     ensures ended { (text : _) → string_bytes text ≡ codes "no\n" → said_of {F = ℕ} (codes "basinmug") (λ _. None) (Faulty text) ≡ Some (codes "no\n") }
     ensures not_ended { (text : _) → string_bytes text ≡ codes "no" → said_of {F = ℕ} (codes "basinmug") (λ _. None) (Faulty text) ≡ Some (codes "no\n") }
+    ensures no_text { said_of {F = ℕ} (codes "columns") (λ _. None) NotUtf8 ≡ Some (codes "columns: an argument is not UTF-8\n") }
+    ensures of_a_run { ended_by {F = ℕ} {T = ℕ} (Ok 1) ≡ Done }
+    ensures of_a_failed_run { ended_by {F = ℕ} {T = ℕ} (Err 7) ≡ Failed 7 }
     ensures no_memory_for_words { unread_for {F = ℕ} OutOfMemory ≡ Memory }
     ensures word_that_is_no_text { unread_for {F = ℕ} InvalidData ≡ NotUtf8 }
 {}

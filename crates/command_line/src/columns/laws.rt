@@ -1,8 +1,10 @@
 //! Command lines worked by hand: what the command makes of their arguments. The functions do nothing.
 ghost use Rattle.std.specs.Prelude.{◌≡◌, ◌∷◌, [], Some, None, codes, Bool, false, true};
 ghost use Rattle.clap.specs.declared.error.kind.ErrorKind.TheVariants.{ArgumentConflict, DisplayHelp, DisplayVersion, InvalidValue, UnknownArgument, ValueValidation};
+ghost use Rattle.grid_config.specs.Compact.{compact_of};
 ghost use Rattle.program_options.specs.ColorList.Names.{color_of_texts};
-ghost use Rattle.command_line.specs.Columns.Asking.{colors_asked, number, IsRead};
+ghost use Rattle.program_options.specs.Columns.Settings.{settings_with};
+ghost use Rattle.command_line.specs.Columns.Asking.{colors_asked, number, IsBadColor, IsRead};
 ghost use Rattle.command_line.specs.Columns.Command.{IsColumns};
 ghost use Rattle.command_line.specs.Options.Names.{named};
 ghost use Rattle.command_line.specs.Columns.Names.{priorities, styles};
@@ -93,4 +95,12 @@ pub fn options_by_hand()
     ensures wrapped { (options : Read) (by_row : Bool) → IsRead (λ _. None) options by_row → options.truncate ≡ false }
     ensures anywhere { (options : Read) (by_row : Bool) → IsRead (λ _. None) options by_row → options.keep_words ≡ false }
     ensures whole { (options : Read) (by_row : Bool) → IsRead (λ _. None) options by_row → by_row ≡ false }
+    ensures style { (options : Read) (by_row : Bool) → IsRead (by_names ((codes "style", codes "modern") ∷ [])) options by_row → compact_of options.style ≡ settings_with modern }
+    ensures usual_style { (options : Read) (by_row : Bool) → IsRead (λ _. None) options by_row → compact_of options.style ≡ settings_with ascii }
+    ensures colors { (options : Read) (by_row : Bool) → IsRead (by_names ((codes "color", codes "1=red") ∷ [])) options by_row →
+        options.colors.items ≡ (1, color_of_texts (codes "\u{1b}[31m") (codes "\u{1b}[39m")) ∷ [] }
+    ensures no_colors { (options : Read) (by_row : Bool) → IsRead (λ _. None) options by_row → options.colors.items ≡ [] }
+    ensures usual_priority { (options : Read) (by_row : Bool) → IsRead (λ _. None) options by_row → options.priority ≡ Choice.None }
+    ensures not_streamed { (options : Read) (by_row : Bool) → IsRead (by_names ((codes "streamed", codes "false") ∷ [])) options by_row → by_row ≡ false }
+    ensures bad_color { (text : _) → IsBadColor (Some (codes "0=pink")) text → text ≡ codes "columns: bad color" }
 {}
