@@ -2,6 +2,7 @@
 #![tactic(auto)]
 
 pub mod additive;
+pub mod by_hand;
 pub mod controls;
 pub mod shown;
 pub mod widths;

@@ -8,7 +8,7 @@ ghost use Rattle.columns_run.specs.DrawnTables.{TableInRange, output_of};
 ghost use Rattle.columns_run.specs.Fault.{MayFollowWrites};
 ghost use Rattle.columns_run.specs.Run.{MayEndBy, read_limit};
 ghost use Rattle.columns_run.specs.Wanted.{Wanted, default_wanted, wanted_of};
-ghost use Rattle.grid_config_values.specs.declared.fault.Fault.TheVariants.{Memory as NoMemory, Range as PassesMax, Room};
+ghost use Rattle.grid_config_values.specs.declared.fault.Fault.TheVariants.{Memory as NoMemory, Range as PassesMax, Room, Spans};
 ghost use Rattle.program_options.specs.Columns.Fault.{fault_text, read_fault, run_fault, write_fault};
 ghost use Rattle.program_options.specs.declared.columns.fault.RunFault.TheVariants.{Escape, LineTooWide, Memory, NotUtf8, Range, Read, ReadTooLong, Write, WriteZero};
 ghost use Rattle.program_options.specs.declared.columns.options.Options.{Options as OneRequest};
@@ -71,6 +71,7 @@ pub fn errors_keep_their_meaning()
     ensures read { (read_fault ReadFailed ≡ Read) × (read_fault TooLong ≡ ReadTooLong) × (read_fault NoMemoryToRead ≡ Memory) }
     ensures write { (write_fault Failed ≡ Write) × (write_fault TookNothing ≡ WriteZero) }
     ensures table { (run_fault NoMemory ≡ Memory) × (run_fault PassesMax ≡ Range) × (run_fault (Room 3 10) ≡ LineTooWide 3 10) }
+    ensures spans { run_fault Spans ≡ Range }
 {}
 
 /// Each option is requested as it is given.

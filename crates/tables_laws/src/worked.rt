@@ -58,6 +58,14 @@ pub fn settings_by_hand()
     ensures no_rows { (s : State) (outcome : Outcome) → setting_step (RowSpan (at 0 0) 0) s outcome → outcome ≡ Err BadSpan }
 {}
 
+/// After a setting that changes how cells look no size is kept, whatever was.
+pub fn sizes_are_forgotten()
+    ensures padding { (s last : State) → setting_step (Padding EveryCell (marked_sides 2 1 1 0)) s (Ok last) → last.sizes ≡ none_stored }
+    ensures two_columns { (s last : State) → setting_step (ColumnSpan (at 0 0) 2) s (Ok last) → last.sizes ≡ none_stored }
+    ensures two_rows { (s last : State) → setting_step (RowSpan (at 0 0) 2) s (Ok last) → last.sizes ≡ none_stored }
+    ensures colored { (s last : State) → setting_step (Color (OneColumn 1) red) s (Ok last) → last.sizes ≡ none_stored }
+{}
+
 /// What settings of cells make of their texts. A text is filled with dots up to a width, or wrapped at it. It gets a
 /// second line, or keeps the first. All texts are justified.
 pub fn cell_sizes_by_hand()
