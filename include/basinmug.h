@@ -75,7 +75,7 @@ enum {
     BASINMUG_WRITE = 8,          /* writing failed; writing memory never does */
     BASINMUG_WRITE_ZERO = 9,     /* the same */
     BASINMUG_QUOTE = 10,         /* a quote that opens a field is not closed */
-    BASINMUG_NO_COLUMN = 11,     /* a list has a name or a number of no column */
+    BASINMUG_NO_COLUMN = 11,     /* a list has a name of no column, or `columns` a number of none */
     BASINMUG_SPANS = 12,         /* cells of a table overlap; never comes of records */
     BASINMUG_OVER_MAX_SIZE = 13, /* the output has more bytes than `max_size` */
 
@@ -113,7 +113,10 @@ enum {
 /* Between which rows there is a line: below the header alone, between each two rows, between none. */
 enum { BASINMUG_RULES_HEADER = 0, BASINMUG_RULES_ALL = 1, BASINMUG_RULES_NONE = 2 };
 
-/* Which escape sequences of the text stay: those of colours, all, none. An escape that does not stay is shown. */
+/*
+ * Which escape sequences of the text stay: those of colours, all, none. Of any other the escape is shown, but with those of
+ * colours ESC [ K, ESC [ 0 K and ESC ( B go.
+ */
 enum { BASINMUG_ESCAPES_COLORS = 0, BASINMUG_ESCAPES_ALL = 1, BASINMUG_ESCAPES_NONE = 2 };
 
 /* The delimiter of a text of which the first line says what it is, as with --delimiter auto. */

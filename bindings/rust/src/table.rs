@@ -52,7 +52,8 @@ pub enum Priority {
     Rightmost,
 }
 
-/// Which escape sequences of cells stay. An escape that does not stay is shown.
+/// Which escape sequences of cells stay. Of any other the escape is shown, but with `Colors` `ESC [ K`, `ESC [ 0 K` and
+/// `ESC ( B` go.
 #[derive(Clone, Copy, Debug, Default, PartialEq, Eq, Hash)]
 pub enum Escapes {
     /// Those of colours and other styles.

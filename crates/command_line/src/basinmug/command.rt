@@ -33,12 +33,13 @@ const ROWS: &str = "Rows";
 const ABOUT: &str = "\
 Prints CSV or TSV as a table.
 
-The delimiter is found: it is the tab where FILE's name ends in .tsv or .tab,
-else the tab, comma, semicolon or bar that the first line has. Without FILE, or
-where it is -, standard input is read. The table is at most as wide as COLUMNS
-says in the environment, where that is a number above 0; else it is as wide as
-its text. Of escape sequences those of colours are kept; others are shown as
-text. Columns of numbers are at the right.";
+The delimiter is found: a first line sep=; names it; else it is the tab where
+FILE's name ends in .tsv or .tab, else the tab, comma, semicolon or bar that
+the first line has. Without FILE, or where it is -, standard input is read. The
+table is at most as wide as COLUMNS says in the environment, where that is a
+number above 0; else it is as wide as its text. Of escape sequences those of
+colours are kept; most others are shown as text. Columns of numbers are at the
+right.";
 
 const USAGE: &str = "basinmug [OPTIONS] [FILE]";
 
@@ -144,7 +145,7 @@ fn escapes<'a>(alloc: Global) -> Arg<'a>
 {
     one_of(alloc, "escapes", "ESCAPES", ESCAPES.as_slice())
         .help_heading(INPUT)
-        .help("Which escape sequences take effect; others are shown as text")
+        .help("Which escape sequences take effect; most others are shown as text")
 }
 
 // How wide the table may be, in columns.
