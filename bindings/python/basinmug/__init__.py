@@ -145,8 +145,8 @@ def table(
 
     `expanded`: the rows one below the other, each cell on lines of its own.
 
-    `escapes` is one of ESCAPES: of the escape sequences of cells those of colours stay, all, or none. Of any other the escape is shown,
-    but with those of colours ESC [ K, ESC [ 0 K and ESC ( B go.
+    `escapes` is one of ESCAPES: of the escape sequences of cells those of colours stay, all, or none. Of any other the escape is
+    shown, but with those of colours ESC [ K, ESC [ 0 K and ESC ( B go.
 
     `max_size`: how many bytes the table may have.
 
