@@ -39,7 +39,8 @@ pub enum Rules {
 /// The escape sequences of the input that are kept.
 #[derive(Clone, Copy, Debug, PartialEq, Eq)]
 pub enum Escapes {
-    /// Those that set colours and other styles, and nothing else. Any other escape is shown as text.
+    /// Those that set colours and other styles, and nothing else. `ESC [ K`, `ESC [ 0 K` and `ESC ( B`, which programs
+    /// write beside them, are left out. Any other escape is shown as text.
     Colors,
     /// All; an escape that begins no sequence is an error.
     All,
@@ -82,7 +83,7 @@ pub struct Options {
     /// The rows between which a line is drawn.
     pub rules: Rules,
     /// The greatest width of the table, in columns; none where it may be as wide as its text. Each column keeps two
-    /// columns of text, or all of its own text where that is less.
+    /// columns of text, or one where two do not fit, or all of its own text where that is less.
     pub width: Option<usize>,
     /// Whether text beyond the width is cut off, and not wrapped. It has no effect without a width.
     pub truncate: bool,
