@@ -3,12 +3,12 @@ ghost use Rattle.std.specs.Prelude.{◌≡◌, ◌∷◌, ◌*◌, ℕ, List, []
 ghost use Rattle.std.specs.List.{AllByRecursion};
 ghost use Rattle.basinmug_bounded.specs.Answers.{IsCellsOutcome, IsOutcome, ReportsCells, ReportsText, answers};
 ghost use Rattle.basinmug_bounded.specs.CellOutputs.{IsCellsPrinted};
-ghost use Rattle.basinmug_bounded.specs.Cells.{AreRecords, AreWhole, AreWholeRows, Given, cells_in, cells_read, fault_at, given};
+ghost use Rattle.basinmug_bounded.specs.Cells.{AreRecords, AreWhole, AreWholeRows, Given, IsReadCells, cells_in, cells_read, fault_at, given};
 ghost use Rattle.basinmug_bounded.specs.Lists.{Texts, list_in, texts};
 ghost use Rattle.basinmug_bounded.specs.Outputs.{most_of};
 ghost use Rattle.basinmug_bounded.specs.Requests.{delimiter_in, first_fault, head_in, number_in, all_escapes, all_rules, columns_shown, line_styles, priorities};
 ghost use Rattle.basinmug_bounded.specs.Worked.{AreOfFault, HasFault, IsReportedBy, greatest, numbers, zeros, other_numbers, some_numbers};
-ghost use Rattle.basinmug_bounded.specs.Texts.{AreReadOf, IsTextPrinted};
+ghost use Rattle.basinmug_bounded.specs.Texts.{AreReadOf, IsTextPrinted, delimited, read_as};
 ghost use Rattle.basinmug_bounded.specs.declared.answer.PrintAnswer.{PrintAnswer as Reported};
 ghost use Rattle.basinmug_bounded.specs.declared.printing.Size.{Size};
 ghost use Rattle.basinmug_bounded.specs.declared.refusal.CellFault.TheVariants as cell;
@@ -217,8 +217,8 @@ pub fn lists_by_hand()
     ensures third { IsFirstBadList (texts (codes "2") (codes "1=right") (codes "x")) list.Color }
 {}
 
-/// What is read of a text and of cells of which a delimiter, three records and ten bytes are requested, and of a text of
-/// which one record below the header is.
+/// What is read of a text and of cells of which a delimiter, three records and ten bytes are requested, and of a text and of
+/// cells of which one record below the header is. The records of a text begin after a line that says what separates fields.
 pub fn texts_by_hand()
     ensures numbers { (lists : Texts) (text old new : List ℕ) (size : Size) → IsOutcome (record some_numbers { head = 3; max_size = 10 }) lists text old new (Ok size) →
         (options : Meant) × IsTextPrinted options (Some 59) (Some 3) text 10 old new (Ok size) }
@@ -226,4 +226,7 @@ pub fn texts_by_hand()
         (options : Meant) × IsCellsPrinted options (Some 3) all 10 old new (Ok size) }
     ensures header { (options : Meant) (text old new : List ℕ) (outcome : Result Size Refusal) → options.header ≡ true →
         IsTextPrinted options (Some 59) (Some 1) text greatest old new outcome → (bytes : List ℕ) × AreReadOf (Some 59) (Some 2) text bytes }
+    ensures header_of_cells { (options : Meant) (all : Given) (old new : List ℕ) (size : Size) → options.header ≡ true →
+        IsCellsPrinted options (Some 1) all greatest old new (Ok size) → (rows : List (List (List ℕ))) × IsReadCells options.escapes (Some 2) all rows }
+    ensures after_a_line { read_as (record { delimiter = 59; start = 5 }) (codes "sep=;\na;b") ≡ delimited 59 (codes "\na;b") }
 {}

@@ -1,11 +1,12 @@
 //! What is left out of a first line, and what is found in texts that were worked by hand. The functions do nothing.
 ghost use Rattle.std.specs.Prelude.{◌≡◌, ◌<◌, ◌∷◌, ◌++◌, ℕ, List, [], None, Option, Some, codes, false, length, take, true};
+ghost use Rattle.std.specs.List.{filter, range_with_len};
 ghost use Rattle.ansi_scan.specs.Sequences.{IsSgr};
 ghost use Rattle.basinmug_delimiter.specs.Choosing.{delimiter_in};
 ghost use Rattle.basinmug_delimiter.specs.Finding.{found_in};
 ghost use Rattle.basinmug_delimiter.specs.FirstLines.{HasFirstLine};
 ghost use Rattle.basinmug_delimiter.specs.Names.{means_tab};
-ghost use Rattle.basinmug_delimiter.specs.Preamble.{tells_mark};
+ghost use Rattle.basinmug_delimiter.specs.Preamble.{can_delimit, tells_mark};
 ghost use Rattle.basinmug_delimiter.specs.Sequences.{rendition_len};
 ghost use Rattle.basinmug_delimiter.specs.declared.Found.{Found};
 
@@ -116,4 +117,14 @@ pub fn marks_by_hand()
     ensures two { tells_mark (0xef ∷ 0xbb ∷ []) ≡ false }
     ensures another { tells_mark (0xef ∷ 0xbc ∷ []) ≡ true }
     ensures mark { tells_mark (0xef ∷ 0xbb ∷ 0xbf ∷ []) ≡ true }
+{}
+
+/// All bytes of ASCII separate fields where a line names them, but the quote and the two that end lines.
+pub fn named_bytes_by_hand()
+    ensures count { length (filter can_delimit (range_with_len 0 256)) ≡ 125 }
+    ensures first { can_delimit 0x00 ≡ true }
+    ensures last { can_delimit 0x7f ≡ true }
+    ensures line_feed { can_delimit 0x0a ≡ false }
+    ensures carriage_return { can_delimit 0x0d ≡ false }
+    ensures quote { can_delimit 0x22 ≡ false }
 {}

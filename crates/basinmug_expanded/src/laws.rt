@@ -46,10 +46,13 @@ pub fn lines_are_filled_by_columns()
     ensures { (line : List ℕ) → line_width line ≡ 2 → filled_line 4 line ≡ line ++ codes "  " }
 {}
 
-/// Records by a header and by number; no record, and how many are left out.
+/// Records by a header, the wider of whose names is the first or the last, and by number; no record, and how many are
+/// left out.
 pub fn records_by_hand()
     ensures one { records_text (record { header = true; width = None; truncate = false; rows_shown = All }) (codes "name" ∷ codes "x" ∷ []) ((codes "C" ∷ codes "1" ∷ []) ∷ [])
         ≡ codes "-[ RECORD 0 ]-\nname | C\nx    | 1\n" }
+    ensures wide_last { records_text (record { header = true; width = None; truncate = false; rows_shown = All }) (codes "x" ∷ codes "name" ∷ []) ((codes "1" ∷ codes "C3" ∷ []) ∷ [])
+        ≡ codes "-[ RECORD 0 ]-\nx    | 1\nname | C3\n" }
     ensures numbered { records_text (record { header = false; width = None; truncate = false; rows_shown = All }) [] ((codes "a" ∷ []) ∷ (codes "b" ∷ codes "c" ∷ []) ∷ [])
         ≡ codes "-[ RECORD 0 ]-\n0 | a\n1 | \n-[ RECORD 1 ]-\n0 | b\n1 | c\n" }
     ensures none { records_text (record { header = true; width = Some 5; truncate = true; rows_shown = All }) (codes "name" ∷ []) [] ≡ [] }

@@ -8,7 +8,7 @@ ghost use Rattle.basinmug_input.specs.Cleaning.{HasOnly, cleaned, cleaned_text, 
 ghost use Rattle.basinmug_input.specs.Faults.{IsFaultOf, IsNotUtf8, IsReadable, IsTextWithClosedQuotes, fault_text};
 ghost use Rattle.basinmug_input.specs.declared.kept.ReadRows.{ReadRows};
 ghost use Rattle.basinmug_input.specs.Kept.{IsReadRows, LeavesOutOneRun, kept_rows, rows_before, rows_left_out};
-ghost use Rattle.basinmug_input.specs.Places.{EndsInQuotes, field_at, line_number_at, IsOpenQuote};
+ghost use Rattle.basinmug_input.specs.Places.{EndsInQuotes, IsOpenQuote, Opens, field_at, line_number_at};
 ghost use Rattle.basinmug_input.specs.Reading.{all_read, read_of, settings};
 ghost use Rattle.basinmug_input.specs.Renditions.{is_in_kept_ranges, is_kept_code};
 ghost use Rattle.basinmug_input.specs.Rows.{rows_in};
@@ -176,17 +176,23 @@ pub fn left_out_rows_are_one_run()
     ensures first { (count : ℕ) (rows : List (List (List ℕ))) → kept_rows (Ends count 0) rows ≡ take count rows }
 {}
 
-/// The places of bytes, and texts that end in quotes.
+/// The places of bytes, quotes that open a field, and texts that end in quotes.
 pub fn places_by_hand()
     ensures first { line_number_at (codes "a,b") 0 ≡ 1 }
+    ensures before_a_break { line_number_at (codes "a\nb") 1 ≡ 1 }
+    ensures after_a_break { line_number_at (codes "a\n\"b\nc") 2 ≡ 2 }
     ensures first_field { field_at (settings 44) (codes "a,b") 0 ≡ 1 }
     ensures second_field { field_at (settings 44) (codes "a,b") 2 ≡ 2 }
     ensures line_in_quotes { line_number_at (codes "a,\"b\nc\",d") 8 ≡ 2 }
     ensures field_in_quotes { field_at (settings 44) (codes "a,\"b,\nc\",d") 9 ≡ 3 }
     ensures next_record { field_at (settings 44) (codes "a,b\r\nc") 5 ≡ 1 }
+    ensures in_next_record { field_at (settings 44) (codes "a,b\nc,d") 6 ≡ 2 }
+    ensures opens { Opens (settings 44) (codes "a,\"b") 2 }
+    ensures opens_none { ¬ Opens (settings 44) (codes "a\"b") 1 }
     ensures open { EndsInQuotes (settings 44) (codes "a,\"b\nc,d\n") }
     ensures open_behind_two { EndsInQuotes (settings 44) (codes "\"a\"\"") }
     ensures closed { (read_of (settings 44) (codes "a,\"b\nc\"")).state ≡ st.AfterQuote }
+    ensures not_open { ¬ EndsInQuotes (settings 44) (codes "a,\"b\"") }
     ensures inside_a_field { (read_of (settings 44) (codes "a \"b")).state ≡ st.InField }
 {}
 
@@ -203,4 +209,14 @@ pub fn open_quotes_by_hand()
     ensures last { IsOpenQuote (settings 44) (codes "\"a\"\n\"b\"\"") 4 }
     ensures first { ¬ IsOpenQuote (settings 44) (codes "\"a\"\n\"b\"\"") 0 }
     ensures closed { ¬ IsOpenQuote (settings 44) (codes "\"a\"") 0 }
+{}
+
+/// Texts that are readable and others, and the errors of these: a quote that is not closed, bytes that are no text, and an
+/// escape that begins no sequence, where all take effect.
+pub fn readable_texts_by_hand()
+    ensures readable { IsReadable Colors (settings 44) (codes "a,\"b\"") }
+    ensures open_quote { ¬ IsReadable Colors (settings 44) (codes "a,\"b") }
+    ensures no_text { ¬ IsReadable Colors (settings 44) (0x61 ∷ 0xff ∷ []) }
+    ensures quote { IsFaultOf Colors (settings 44) (codes "a\n\"b") (Quote 2) }
+    ensures not_text { IsFaultOf Colors (settings 44) (0x61 ∷ 0x2c ∷ 0xff ∷ []) (NotText 1 2) }
 {}

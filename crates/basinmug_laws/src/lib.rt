@@ -2,7 +2,6 @@
 #![tactic(auto)]
 
 pub mod additive;
-pub mod by_hand;
 pub mod controls;
 pub mod shown;
 pub mod widths;

@@ -34,6 +34,9 @@ pub fn numbers_by_hand()
     ensures percent_and_exponent { is_number (codes "5%e3") ≡ false }
     ensures groups_in_exponent { is_number (codes "1e1,000") ≡ false }
     ensures groups_and_point { is_number (codes "1,234.") ≡ true }
+    ensures first_group_of_one { is_number (codes "1,234") ≡ true }
+    ensures first_group_of_two { is_number (codes "12,345") ≡ true }
+    ensures first_group_of_three { is_number (codes "123,456") ≡ true }
 {}
 
 /// Columns of one cell a record: all numbers, one of them with its colour and white space around it; a blank cell and one

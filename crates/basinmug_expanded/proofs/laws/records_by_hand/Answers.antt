@@ -19,6 +19,10 @@ pub returns-clause-one : goal.returns-clause-one
 unfolding chars pieces first_pieces leading_piece at_escape sequence_front opened control_from string_from escape_from matches_from first_match applied after_parameters plain_attributes start_bytes start_sequences end_bytes end_sequences digits encode char_width str_width step past_emoji alone text_lines text_width wrapped_text cut_at
 returns-clause-one c = refl
 
+pub returns-clause-wide_last : goal.returns-clause-wide_last
+unfolding chars pieces first_pieces leading_piece at_escape sequence_front opened control_from string_from escape_from matches_from first_match applied after_parameters plain_attributes start_bytes start_sequences end_bytes end_sequences digits encode char_width str_width step past_emoji alone text_lines text_width wrapped_text cut_at
+returns-clause-wide_last c = refl
+
 pub returns-clause-numbered : goal.returns-clause-numbered
 unfolding chars pieces first_pieces leading_piece at_escape sequence_front opened control_from string_from escape_from matches_from first_match applied after_parameters plain_attributes start_bytes start_sequences end_bytes end_sequences digits encode char_width str_width step past_emoji alone text_lines text_width wrapped_text cut_at
 returns-clause-numbered c = refl
