@@ -1,7 +1,7 @@
 //! A reader, block by block.
 ghost use Rattle.std.specs.Prelude.{◌≡◌, ◌≢◌, ◌≤◌, Err, IfOk, IsErrOf, OnOk};
 ghost use Rattle.tabled_output.specs.Counts.{FailsIff, OnlyReads, inner_of, pieces_after, pieces_read_of};
-ghost use Rattle.basinmug_head.specs.Blocks.{IsBlock};
+ghost use Rattle.basinmug_head.specs.Blocks.{HasGivenAtMost, IsBlock};
 
 use std::io::Read;
 use tabled_output::{Counted, ReadFault};
@@ -18,6 +18,7 @@ pub(crate) fn read_block<R: Read>(
     ensures block { IfOk result (IsBlock (R.remaining (inner_of reader.old)) (R.remaining (inner_of reader.new)) bytes.old.items bytes.new.items) }
     ensures bound { IfOk result (λ count. count ≤ 65536) }
     ensures piece { OnOk result (pieces_read_of reader.new ≡ pieces_after result (pieces_read_of reader.old)) }
+    ensures most { HasGivenAtMost reader.old reader.new 1 }
     ensures read { FailsIff (IsErrOf result ReadFault.Read) reader.old reader.new }
     ensures not_long { result ≢ Err ReadFault.TooLong }
     ensures only_reads { OnlyReads reader.old reader.new }

@@ -2,6 +2,7 @@
 ghost use Rattle.std.specs.Prelude.{◌≡◌, ◌≤◌, IfOk, IsErrOf, is_some, length};
 ghost use Rattle.tabled_output.specs.Counts.{FailsIff, HasGivenPieces, OnlyReads, inner_of};
 ghost use Rattle.tabled_output.specs.Streams.{ConsumesSome};
+ghost use Rattle.basinmug_head.specs.Blocks.{HasGivenAtMost};
 ghost use Rattle.basinmug_head.specs.Fronts.{IsFront};
 
 use crate::blocks::read_block;
@@ -31,6 +32,7 @@ pub(crate) fn read_front<R: Read>(
 ) -> Result<Front, ReadFault>
     ensures front { IfOk result (λ front. IsFront (R.remaining (inner_of reader.old)) (R.remaining (inner_of reader.new)) asked front.bytes.items front.ended) }
     ensures most { IfOk result (λ front. front.reads ≤ limit) }
+    ensures few { HasGivenAtMost reader.old reader.new limit }
     ensures reads { IfOk result (λ front. HasGivenPieces reader.old reader.new front.reads) }
     ensures some_text { IfOk result (λ front. front.reads ≤ length front.bytes.items) }
     ensures read { FailsIff (IsErrOf result ReadFault.Read) reader.old reader.new }

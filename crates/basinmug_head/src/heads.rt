@@ -1,5 +1,5 @@
 //! The first records of a text.
-ghost use Rattle.std.specs.Prelude.{◌≡◌, ◌≤◌, ℕ, false, IfOk, IfSome, IsErrOf, OnOk, length, option_copied, take};
+ghost use Rattle.std.specs.Prelude.{◌≡◌, ◌≤◌, ℕ, false, IfOk, IfSome, IsErrOf, length, option_copied, take};
 ghost use Rattle.tabled_output.specs.Counts.{FailsIff, HasGivenPieces, OnlyReads, inner_of};
 ghost use Rattle.tabled_output.specs.Streams.{ConsumesSome};
 ghost use Rattle.basinmug_head.specs.Blocks.{HasGivenAtMost};
@@ -81,7 +81,7 @@ pub fn read_head<R: Read>(
     ensures head { IfOk result (λ head. IfSome (R.remaining (inner_of reader.old)) (IsHeadOf asked (option_copied file.entry) records head.bytes.items head.found)) }
     ensures some_text { IfOk result (λ head. ConsumesSome (R.remaining (inner_of reader.old)) (R.remaining (inner_of reader.new))
         (IsHeadOf asked (option_copied file.entry) records head.bytes.items head.found)) }
-    ensures most { OnOk result (HasGivenAtMost reader.old reader.new limit) }
+    ensures most { HasGivenAtMost reader.old reader.new limit }
     ensures read { FailsIff (IsErrOf result ReadFault.Read) reader.old reader.new }
     ensures too_long { IsErrOf result ReadFault.TooLong → HasGivenPieces reader.old reader.new limit }
     ensures long_text { IsErrOf result ReadFault.TooLong →
@@ -106,7 +106,7 @@ fn read_records<R: Read>(
     requires { found.start ≤ length front.bytes.items }
     ensures within { IfOk result (λ bytes. found.start ≤ length bytes.items) }
     ensures head { IfOk result (λ bytes. IsHeadIn (R.remaining (inner_of reader.old)) (R.remaining (inner_of reader.new)) found records front.bytes.items front.ended bytes.items) }
-    ensures most { OnOk result (HasGivenAtMost reader.old reader.new limit) }
+    ensures most { HasGivenAtMost reader.old reader.new limit }
     ensures read { FailsIff (IsErrOf result ReadFault.Read) reader.old reader.new }
     ensures too_long { IsErrOf result ReadFault.TooLong → HasGivenPieces reader.old reader.new limit }
     ensures long_text { IsErrOf result ReadFault.TooLong →
@@ -138,7 +138,7 @@ fn read_on<R: Read>(
     requires { walk.found.start ≤ length bytes.items }
     ensures head { IfOk result (λ all. (records : ℕ) → IsWalked walk.found records bytes.items walk
         → IsHeadIn (R.remaining (inner_of reader.old)) (R.remaining (inner_of reader.new)) walk.found records bytes.items false all.items) }
-    ensures most { OnOk result (HasGivenAtMost reader.old reader.new limit) }
+    ensures most { HasGivenAtMost reader.old reader.new limit }
     ensures read { FailsIff (IsErrOf result ReadFault.Read) reader.old reader.new }
     ensures too_long { IsErrOf result ReadFault.TooLong → HasGivenPieces reader.old reader.new limit }
     ensures long_text { IsErrOf result ReadFault.TooLong →

@@ -4,9 +4,10 @@ use Rattle.std.specs.Prelude.{Option, None, Some, is_some}
 use Rattle.std.proofs.KnownBytes.{Consumes-trans}
 use Rattle.std.proofs.lemmas.Bool.{false≢true}
 use Rattle.std.specs.Io.KnownBytes.{Consumes}
-use Rattle.tabled_output.specs.Counts.{inner_of}
+use Rattle.tabled_output.specs.Counts.{inner_of, pieces_read_of}
 use Rattle.basinmug_delimiter.specs.FirstLines.{HasFirstLine, IsKnownOf}
 use Rattle.basinmug_head.specs.Fronts.{TellsFields}
+use Rattle.basinmug_head.proofs.Pieces.{given-both}
 use Rattle.basinmug_head.proofs.front.read_front.Goals as goal
 use Rattle.basinmug_head.proofs.front.read_front.Goals.{then-is_some-via-then-is_some, then-is_some-via-else-is_some+then-is_whole}
 
@@ -66,3 +67,13 @@ loop-reads-preserved g c =
         flushes = reads.flushes ∙ known.only_reads.flushes;
       };
     }
+
+pub returns-in_err-read_block-clause-few : goal.returns-in_err-read_block-clause-few
+returns-in_err-read_block-clause-few g c =
+    given-both (pieces_read_of c.args.reader.now) (pieces_read_of c.loop-reads.reader) (pieces_read_of c.read_block.new.reader) c.loop-reads.reads 1 c.args.limit
+    c.args.reader.now.in_range (search rules) c.loop-reads.invariant.pieces_read c.read_block.ensures.most
+
+pub returns-then-is_some-clause-few : goal.returns-then-is_some-clause-few
+returns-then-is_some-clause-few g c =
+    given-both (pieces_read_of c.args.reader.now) (pieces_read_of c.loop-reads.reader) (pieces_read_of c.read_block.new.reader) c.loop-reads.reads 1 c.args.limit
+    c.args.reader.now.in_range (search rules) c.loop-reads.invariant.pieces_read c.read_block.ensures.most

@@ -1,5 +1,5 @@
 -- The prefix and what is read after it are the head of a text.
-use Rattle.std.proofs.Common.{rules, ◌≡◌, ◌∙◌, ◌⊎◌, ◌≤◌, ◌<◌, ◌+◌, ◌-◌, ◌%◌, ◌^◌, ◌++◌, IsErrOf, arith, length, length-append, inl, inr, ℕ, List, [], Bool, ap, refl, subst, sym, false, true}
+use Rattle.std.proofs.Common.{rules, ◌≡◌, ◌∙◌, ◌⊎◌, ◌≤◌, ◌-◌, ◌++◌, IsErrOf, arith, length, length-append, inl, inr, ℕ, List, [], Bool, ap, refl, subst, sym, false, true}
 use Rattle.std.specs.Io.KnownBytes.{Consumes, IsAtEnd}
 use Rattle.std.specs.Prelude.{IfSome, Option, None, Some, option_copied}
 use Rattle.std.proofs.KnownBytes.{Consumes-trans}
@@ -10,6 +10,7 @@ use Rattle.tabled_output.specs.declared.reading.ReadFault.TheVariants.{TooLong}
 use Rattle.basinmug_delimiter.specs.declared.Found.{Found}
 use Rattle.basinmug_head.specs.Fronts.{IsFront, TellsFields}
 use Rattle.basinmug_head.specs.Heads.{IsCut, IsHeadIn, IsHeadOf, IsWhole, asked_or_found}
+use Rattle.basinmug_head.proofs.Pieces.{given-both}
 use Rattle.basinmug_head.proofs.Walks.{head-is, left-behind}
 use Rattle.basinmug_head.proofs.heads.read_head.Goals as goal
 
@@ -72,11 +73,12 @@ returns-in_err-bytes-clause-long_text g c = λ long.
     c.in_ok-front.front.bytes.items c.in_ok-front.front.reads c.args.limit
     c.in_ok-front.ensures.front.consumed c.in_ok-front.ensures.some_text c.in_ok-front.ensures.most (c.read_records.ensures.long_text told)
 
-both-most : (before mid after reads limit : ℕ) → before < 2 ^ 64 → reads ≤ limit → mid ≡ (before + reads) % 2 ^ 64 → (n : ℕ) × (n ≤ limit - reads) × (after ≡ (mid + n) % 2 ^ 64)
-    → (n : ℕ) × (n ≤ limit) × (after ≡ (before + n) % 2 ^ 64)
-both-most before mid after reads limit below most first (n, few, then) = (reads + n, omega (arith, most, few), omega (arith, below, first, then))
-
 pub returns-clause-most : goal.returns-clause-most
 returns-clause-most g c =
-    both-most (pieces_read_of c.args.reader.now) (pieces_read_of c.read_front.new.reader) (pieces_read_of c.read_records.new.reader) c.in_ok-front.front.reads c.args.limit
-    c.args.reader.now.in_range c.in_ok-front.ensures.most c.in_ok-front.ensures.reads c.in_ok-bytes.ensures.most
+    given-both (pieces_read_of c.args.reader.now) (pieces_read_of c.read_front.new.reader) (pieces_read_of c.read_records.new.reader) c.in_ok-front.front.reads (c.args.limit - c.in_ok-front.front.reads) c.args.limit
+    c.args.reader.now.in_range (search rules) c.in_ok-front.ensures.reads c.read_records.ensures.most
+
+pub returns-in_err-bytes-clause-most : goal.returns-in_err-bytes-clause-most
+returns-in_err-bytes-clause-most g c =
+    given-both (pieces_read_of c.args.reader.now) (pieces_read_of c.read_front.new.reader) (pieces_read_of c.read_records.new.reader) c.in_ok-front.front.reads (c.args.limit - c.in_ok-front.front.reads) c.args.limit
+    c.args.reader.now.in_range (search rules) c.in_ok-front.ensures.reads c.read_records.ensures.most

@@ -4,11 +4,12 @@ use Rattle.std.proofs.KnownBytes.{Consumes-trans}
 use Rattle.std.proofs.lemmas.Bool.{false≢true}
 use Rattle.std.proofs.lemmas.List.{append-nil, append_assoc}
 use Rattle.std.proofs.Math.Seq.{take-append_seam}
-use Rattle.tabled_output.specs.Counts.{inner_of}
+use Rattle.tabled_output.specs.Counts.{inner_of, pieces_read_of}
 use Rattle.basinmug_delimiter.specs.declared.Found.{Found}
 use Rattle.basinmug_head.specs.Walking.{IsStep, IsWalked, KeepsFound}
 use Rattle.basinmug_head.specs.declared.walk.Step.{Step}
 use Rattle.basinmug_head.specs.declared.walk.Walk.{Walk}
+use Rattle.basinmug_head.proofs.Pieces.{given-both}
 use Rattle.basinmug_head.proofs.Walks.{head-cut, head-whole}
 use Rattle.basinmug_head.proofs.heads.read_on.Goals as goal
 
@@ -63,7 +64,14 @@ returns-in-End-clause-head g c =
     ends c.truncate.ensures.items
 
 pub returns-in-End-clause-most : goal.returns-in-End-clause-most
-returns-in-End-clause-most g c = (c.loop.counter + 1, search rules, search rules)
+returns-in-End-clause-most g c =
+    given-both (pieces_read_of c.args.reader.now) (pieces_read_of c.loop.reader) (pieces_read_of c.read_block.new.reader) c.loop.counter 1 c.args.limit
+    c.args.reader.now.in_range (search rules) c.loop.invariant.pieces_read c.read_block.ensures.most
+
+pub returns-in_err-read_block-clause-most : goal.returns-in_err-read_block-clause-most
+returns-in_err-read_block-clause-most g c =
+    given-both (pieces_read_of c.args.reader.now) (pieces_read_of c.loop.reader) (pieces_read_of c.read_block.new.reader) c.loop.counter 1 c.args.limit
+    c.args.reader.now.in_range (search rules) c.loop.invariant.pieces_read c.read_block.ensures.most
 
 pub loop-preserved : goal.loop-preserved
 loop-preserved g c =
