@@ -19,7 +19,6 @@ use Rattle.basinmug_input.proofs.laws.readable_texts_by_hand.Goals as goal
 is-text : (bytes : List ℕ) → is_utf8 bytes ≡ true → IsUtf8 bytes
 is-text bytes is = IsUtf8-from_is_utf8 bytes is
 
-
 closed : EndsInQuotes (settings 44) (codes "a,\"b\"") → ⊥
 unfolding csv_on_literals
 closed ends = let clash : st.AfterQuote ≡ st.InQuoted = ends in cc clash
@@ -68,7 +67,6 @@ no-text bytes is text = let both = is_utf8-from_IsUtf8 bytes text in cc (is, bot
 pub returns-clause-no_text : goal.returns-clause-no_text
 unfolding is_utf8 chars encode
 returns-clause-no_text c = λ readable. no-text (0x61 ∷ 0xff ∷ []) refl readable.is_text.0
-
 
 -- no more bytes of them are text
 longest : (m : ℕ) → 2 < m → IsUtf8 (take m (0x61 ∷ 0x2c ∷ 0xff ∷ [])) → ⊥
