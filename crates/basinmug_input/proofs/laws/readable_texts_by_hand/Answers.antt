@@ -1,6 +1,6 @@
 -- What is text and what is read of it is computed.
 use Rattle.std.specs.Prelude.{IsUtf8}
-use Rattle.std.specs.Str.{IsValidUpTo, chars, is_utf8}
+use Rattle.std.specs.Str.{chars, is_utf8}
 use Rattle.std.proofs.Common.{◌≡◌, ◌∷◌, ◌<◌, [], ap, arith, codes, false, inl, length, refl, true, zero, suc, ℕ, List, take}
 use Rattle.std.proofs.Math.Utf8.{encode}
 use Rattle.std.proofs.lemmas.Str.{IsUtf8-from_is_utf8, is_utf8-from_IsUtf8}
@@ -9,8 +9,7 @@ use Rattle.csv.specs.declared.parser.Action.{Action}
 use Rattle.csv.specs.declared.parser.Action.TheVariants as act
 use Rattle.csv.specs.declared.parser.State.{State}
 use Rattle.csv.specs.declared.parser.State.TheVariants as st
-use Rattle.basinmug_input.specs.Faults.{IsTextWithClosedQuotes}
-use Rattle.basinmug_input.specs.Places.{EndsInQuotes, IsOpenQuote, Opens}
+use Rattle.basinmug_input.specs.Places.{EndsInQuotes, Opens}
 use Rattle.basinmug_input.specs.Reading.{settings}
 use Rattle.basinmug_input.proofs.laws.readable_texts_by_hand.Goals as goal
 
@@ -27,7 +26,7 @@ pub returns-clause-readable : goal.returns-clause-readable
 unfolding csv_on_literals is_utf8 chars encode
 returns-clause-readable c = record {
   is_text = (is-text (codes "a,\"b\"") refl, closed);
-  sound = (((is-text (codes "a") refl, tt), (is-text (codes "b") refl, tt), tt), tt);
+  sound = (((is-text (codes "a") refl, tt), ((is-text (codes "b") refl, tt), tt)), tt);
 }
 
 -- ---- one that is not closed
@@ -77,7 +76,7 @@ longest (suc (suc zero)) past text = absurd (omega (arith, past))
 longest (suc (suc (suc zero))) past text = no-text (0x61 ∷ 0x2c ∷ 0xff ∷ []) refl text
 longest (suc (suc (suc (suc m)))) past text = no-text (0x61 ∷ 0x2c ∷ 0xff ∷ []) refl text
 
-short : 2 < length (0x61 ∷ 0x2c ∷ 0xff ∷ [])
+short : 2 < length {A = ℕ} (0x61 ∷ 0x2c ∷ 0xff ∷ [])
 short = let less : 2 < 3 = omega arith in less
 
 pub returns-clause-not_text : goal.returns-clause-not_text
