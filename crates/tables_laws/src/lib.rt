@@ -2,6 +2,7 @@
 #![tactic(auto)]
 
 pub mod additive;
+pub mod by_hand;
 pub mod characters;
 pub mod grids;
 pub mod pools;
