@@ -2,7 +2,7 @@
 use Rattle.std.specs.Fmt.{digits}
 use Rattle.std.specs.Prelude.{MatchResult, nat_lt}
 use Rattle.std.specs.Str.{chars}
-use Rattle.std.proofs.Common.{◌≡◌, ◌∙◌, ◌∷◌, ◌<◌, ◌≤◌, ◌-◌, ℕ, Bool, Err, List, None, Ok, Option, Result, Some, [], ap, arith, codes, false, refl, subst, sym, true}
+use Rattle.std.proofs.Common.{◌≡◌, ◌∙◌, ◌∷◌, ◌<◌, ◌-◌, ◌+◌, ℕ, Err, List, None, Ok, Option, Result, Some, [], ap, arith, codes, false, refl, subst, sym}
 use Rattle.std.proofs.Math.Utf8.{encode}
 use Rattle.unicode_width.specs.Width.{alone, char_width, past_emoji, step, str_width}
 use Rattle.ansi_scan.specs.Attributes.{plain_attributes}
@@ -13,7 +13,7 @@ use Rattle.grid_config_values.specs.declared.fault.Fault.{Fault}
 use Rattle.grid_records_estimate.specs.Estimates.{track_sizes}
 use Rattle.grid_records_measure.specs.TextLines.{text_height, text_lines, text_width}
 use Rattle.tabled_height.specs.Heights.{HeightEstimate, estimate_with, estimated}
-use Rattle.tabled_height.specs.Steps.{GrownRows, LimitsTable, MeasuredHeight, RaisesTable, Resizes, ShrunkRows, keeping_heights, limiting_rows}
+use Rattle.tabled_height.specs.Steps.{GrownRows, LimitsTable, RaisesTable, Resizes, ShrunkRows, keeping_heights, limiting_rows}
 use Rattle.tabled_list.specs.Amounts.{height_of, width_of}
 use Rattle.tabled_list.specs.Priorities.{grows_so, measured_so, shrinks_so}
 use Rattle.tabled_list.specs.declared.amount.Amount.TheVariants.{Exact}
@@ -29,7 +29,7 @@ use Rattle.tabled_steps.specs.Sizes.{natural_heights, natural_widths}
 use Rattle.tabled_steps.specs.States.{Outcome, State, column_count, settled}
 use Rattle.tabled_width.specs.Rooms.{column_widths}
 use Rattle.tabled_width.specs.Steps.{Then}
-use Rattle.tabled_width.specs.Tables.{Grown, TableSizes, Where, Widens, WidensTable, has_cells, keeping, sizes_with, table_sizes}
+use Rattle.tabled_width.specs.Tables.{Grown, TableSizes, Where, Widens, WidensTable, keeping, sizes_with, table_sizes}
 use Rattle.tables_laws.specs.Worked.Tables.{below, beside}
 use Rattle.tables_laws.proofs.by_hand.resized_tables_by_hand.Goals as goal
 
@@ -44,7 +44,7 @@ grown-first by one other sizes some grown = grown.first_gets_all 0 (first-of-two
 -- ---- a width that is exact
 
 exact : {n : ℕ} (next : ℕ → Outcome → Type 0) (size : Result ℕ Fault) (changed : Outcome) → Ok n ≡ size → Then size next changed → next n changed
-exact next (Ok m) changed same done = cc (same, done)
+exact {n} next (Ok m) changed same done = let is : n ≡ m = cc same in subst (λ (k : ℕ). next k changed) (sym is) done
 exact next (Err fault) changed same done = cc same
 
 worked-out : {A : Type 0} (next : A → Outcome → Type 0) (given : Result A Fault) (it : A) (changed : Outcome) → given ≡ Ok it → Then given next changed → next it changed
@@ -91,7 +91,7 @@ returns-clause-wide_enough c = λ outcome (changed, taken, left). (
 -- ---- a height that is exact
 
 exact-height : {n : ℕ} (next : ℕ → Outcome → Type 0) (size : Result ℕ Fault) (changed : Outcome) → Ok n ≡ size → MatchResult size (λ m. next m changed) (λ fault. Err fault ≡ changed) → next n changed
-exact-height next (Ok m) changed same done = cc (same, done)
+exact-height {n} next (Ok m) changed same done = let is : n ≡ m = cc same in subst (λ (k : ℕ). next k changed) (sym is) done
 exact-height next (Err fault) changed same done = cc same
 
 resized : (finds : HeightEstimate → Option (List ℕ) → Type 0) (change : Option (List ℕ) → State → State) (s : State) (estimate : HeightEstimate) (changed : Outcome)
