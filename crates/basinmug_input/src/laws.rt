@@ -219,4 +219,5 @@ pub fn readable_texts_by_hand()
     ensures no_text { ¬ IsReadable Colors (settings 44) (0x61 ∷ 0xff ∷ []) }
     ensures quote { IsFaultOf Colors (settings 44) (codes "a\n\"b") (Quote 2) }
     ensures not_text { IsFaultOf Colors (settings 44) (0x61 ∷ 0x2c ∷ 0xff ∷ []) (NotText 1 2) }
+    ensures escape { IsFaultOf AllEscapes (settings 44) (codes "a\nb,c\u{1b}") (Escape 2 2) }
 {}

@@ -2,11 +2,12 @@
 ghost use Rattle.std.specs.Prelude.{◌≡◌, ◌∷◌, ◌-◌, ◌^◌, ℕ, List, Err, None, Ok, Some, [], codes, false, true};
 ghost use Rattle.std.specs.declared.cmp.Ordering.TheVariants.{Greater, Less};
 ghost use Rattle.ansi_scan.specs.Pieces.{pieces};
-ghost use Rattle.grid_config.specs.Ansi.Colors.{Color, is_no_color, no_color};
+ghost use Rattle.grid_config.specs.Ansi.Colors.{color_of, is_no_color, no_color};
 ghost use Rattle.grid_config.specs.Ansi.Fault.{fault_text as color_fault_text};
-ghost use Rattle.grid_config.specs.Compact.{each_side, map_borders, new_compact};
+ghost use Rattle.grid_config.specs.Compact.{each_side, map_borders, new_compact, side_colors};
 ghost use Rattle.grid_config.specs.Looks.{Look};
 ghost use Rattle.grid_config.specs.Settings.{side_colors_if};
+ghost use Rattle.grid_config.specs.declared.colors.borrowed.ANSIStr.{ANSIStr};
 ghost use Rattle.grid_config.specs.declared.colors.fault.BufFault.TheVariants.{Memory as NoMemoryForColor, NoBlock};
 ghost use Rattle.grid_config_values.specs.Fault.{fault_text};
 ghost use Rattle.grid_config_values.specs.Glyphs.{boundary_count, has_column_boundary, no_borders};
@@ -15,6 +16,7 @@ ghost use Rattle.grid_config_values.specs.Spans.Spans.{extent_at};
 ghost use Rattle.grid_config_values.specs.declared.entity.Entity.TheVariants.{Global as EveryCell};
 ghost use Rattle.grid_config_values.specs.declared.fault.Fault.TheVariants.{Memory, Range, Room, Spans};
 ghost use Rattle.grid_config_values.specs.declared.borders.Borders.{Borders};
+ghost use Rattle.grid_config_values.specs.declared.sides.Sides.{Sides};
 ghost use Rattle.grid_records_measure.specs.Tabs.{tabs_replaced};
 ghost use Rattle.papergrid_picture.specs.Fitting.{FitsAnswer, InRange};
 ghost use Rattle.papergrid_picture.specs.Frame.{Frame};
@@ -22,6 +24,7 @@ ghost use Rattle.papergrid_picture.specs.Picture.{at};
 ghost use Rattle.tabled.specs.Tables.{new_look};
 ghost use Rattle.tabled_compact.specs.Columns.{spaced_widths};
 ghost use Rattle.tabled_compact.specs.Iter.Tables.{begun};
+ghost use Rattle.tabled_list.specs.Settings.{cutting_by, setting_step};
 ghost use Rattle.tabled_list.specs.Stripping.Printing.{printed};
 ghost use Rattle.tabled_list.specs.declared.amount.Amount.TheVariants.{Exact};
 ghost use Rattle.tabled_list.specs.declared.setting.Setting.TheVariants.{HeightIncrease, HeightLimit, MinWidth};
@@ -41,10 +44,12 @@ ghost use Rattle.tabled_pool.specs.Boxes.Values.{Beside, Member, NoMore, Stacked
 ghost use Rattle.tabled_pool.specs.Pools.{begun as begun_pool, rows_nesting, text_of};
 ghost use Rattle.tabled_size.specs.Dimension.Order.{stored_cmp};
 ghost use Rattle.tabled_size.specs.Dimension.Stored.{none_stored};
+ghost use Rattle.tabled_size.specs.declared.dimension.suffix.SuffixLimit.TheVariants.{Cut};
 ghost use Rattle.tabled_size_priority.specs.Leasts.{GoInTwoSteps, greater};
 ghost use Rattle.tabled_size_priority.specs.declared.choice.Choice.TheVariants.{Left as FromLeft};
 ghost use Rattle.tabled_steps.specs.Looks.{with_column_span};
-ghost use Rattle.tabled_width.specs.Order.{widening_cmp};
+ghost use Rattle.tabled_steps.specs.States.{State};
+ghost use Rattle.tabled_width.specs.Order.{truncation_cmp, widening_cmp};
 ghost use Rattle.tabled_width.specs.Rooms.{text_room};
 ghost use Rattle.tables_laws.specs.Worked.Tables.{Gives, at_the_right, below, beside, of_one};
 
@@ -75,6 +80,10 @@ pub fn colors_by_hand()
         ≡ record { left = Some (record { prefix = left ∷ []; suffix = [] }); right = Some (record { prefix = right ∷ []; suffix = [] }); top = Some (record { prefix = top ∷ []; suffix = [] }); bottom = Some (record { prefix = bottom ∷ []; suffix = [] }) } }
     ensures none { side_colors_if (each_side no_color) ≡ each_side None }
     ensures places { (borders : Borders ℕ) → map_borders (λ glyph. glyph) borders ≡ borders }
+    ensures left { (sides : Sides ANSIStr) → (side_colors sides).left ≡ color_of sides.left }
+    ensures right { (sides : Sides ANSIStr) → (side_colors sides).right ≡ color_of sides.right }
+    ensures top { (sides : Sides ANSIStr) → (side_colors sides).top ≡ color_of sides.top }
+    ensures bottom { (sides : Sides ANSIStr) → (side_colors sides).bottom ≡ color_of sides.bottom }
 {}
 
 /// Spaces in the place of tabs: so many, none, and not within a sequence.
@@ -137,12 +146,15 @@ pub fn columns_by_hand()
     ensures sniffed { (rows : List (List (List ℕ))) → (begun rows).sniff ≡ 1000 }
 {}
 
-/// Widths are compared before heights, no list comes before one, and the width of an option before its fill.
+/// Widths are compared before heights, no list comes before one, and the width of an option before its fill, or its suffix,
+/// and that before its switches.
 pub fn orders_by_hand()
     ensures widths_first { stored_cmp (record { widths = Some (1 ∷ []); heights = Some (9 ∷ []) }) (record { widths = Some (2 ∷ []); heights = Some (3 ∷ []) }) ≡ Less }
     ensures none_first { stored_cmp none_stored (record { widths = Some []; heights = None }) ≡ Less }
     ensures width_first { widening_cmp (record { width = 2; fill = 0x61; priority = 0 }) (record { width = 1; fill = 0x62; priority = 5 }) ≡ Greater }
     ensures then_fill { widening_cmp (record { width = 1; fill = 0x62; priority = 0 }) (record { width = 1; fill = 0x61; priority = 5 }) ≡ Greater }
+    ensures cut_width_first { truncation_cmp (record { width = 1; cutting = cutting_by (codes "b") Cut true true; priority = 9 }) (record { width = 2; cutting = cutting_by (codes "a") Cut false false; priority = 0 }) ≡ Less }
+    ensures then_suffix { truncation_cmp (record { width = 1; cutting = cutting_by (codes "b") Cut false false; priority = 0 }) (record { width = 1; cutting = cutting_by (codes "a") Cut true true; priority = 9 }) ≡ Greater }
 {}
 
 /// A priority with leasts of its own: the greater ones of these and the table's; columns shrink to them first, and then to
@@ -193,10 +205,11 @@ pub fn pools_by_hand()
 {}
 
 /// Tables that get a height or a width: the first row, or column, gets what they lack, or gives what is too much, and then
-/// has fewer lines. A table that is wide enough stays.
+/// has fewer lines. A table that is wide enough stays; the sizes that its texts need are kept.
 pub fn resized_tables_by_hand()
     ensures higher { Gives (HeightIncrease (Exact 6) FromLeft) (below (codes "a") (codes "b")) (codes "+---+\n| a |\n|   |\n+---+\n| b |\n+---+") }
     ensures lower { Gives (HeightLimit (Exact 6) FromLeft) (below (codes "a\nb\nc") (codes "d\ne")) (codes "+---+\n| a |\n+---+\n| d |\n| e |\n+---+") }
     ensures wider { Gives (MinWidth (Exact 10) FromLeft) (beside (codes "a") (codes "b")) (codes "+----+---+\n| a  | b |\n+----+---+") }
+    ensures sizes { (left : State) → setting_step (MinWidth (Exact 9) FromLeft) (beside (codes "a") (codes "b")) (Ok left) → left.sizes ≡ record { widths = Some (3 ∷ 3 ∷ []); heights = Some (1 ∷ []) } }
     ensures wide_enough { Gives (MinWidth (Exact 9) FromLeft) (beside (codes "a") (codes "b")) (codes "+---+---+\n| a | b |\n+---+---+") }
 {}

@@ -4,6 +4,10 @@ use Rattle.std.specs.Str.{chars, is_utf8}
 use Rattle.std.proofs.Common.{◌≡◌, ◌∷◌, ◌<◌, [], ap, arith, codes, false, inl, length, refl, true, zero, suc, ℕ, List, take}
 use Rattle.std.proofs.Math.Utf8.{encode}
 use Rattle.std.proofs.lemmas.Str.{IsUtf8-from_is_utf8, is_utf8-from_IsUtf8}
+use Rattle.ansi_scan.specs.Pieces.{at_escape, control_from, escape_from, first_pieces, leading_piece, opened, pieces, sequence_front, string_from}
+use Rattle.ansi_scan.specs.Sequences.{ArePiecesOf, IsFirstBroken, IsWhole}
+use Rattle.ansi_scan.specs.declared.items.Kind.TheVariants.{Broken, Text}
+use Rattle.ansi_scan.proofs.Existence.{ArePiecesOf-pieces}
 use Rattle.csv.proofs.OnLiterals.{csv_on_literals}
 use Rattle.csv.specs.declared.parser.Action.{Action}
 use Rattle.csv.specs.declared.parser.Action.TheVariants as act
@@ -88,3 +92,55 @@ returns-clause-not_text c = inl (record {
   in_line = refl;
   in_field = refl;
 })
+
+-- ---- an escape that begins no sequence
+
+whole : (byte : ℕ) → ArePiecesOf (byte ∷ []) (record { kind = Text; bytes = byte ∷ [] } ∷ []) → IsWhole (byte ∷ [])
+whole byte pieces_of = record { pieces = record { kind = Text; bytes = byte ∷ [] } ∷ []; of_text = pieces_of; none_broken = ((λ same. cc same), tt) }
+
+whole-a : IsWhole (codes "a")
+unfolding pieces first_pieces leading_piece at_escape sequence_front opened control_from string_from escape_from
+whole-a = whole 0x61 (ArePiecesOf-pieces (codes "a"))
+
+whole-b : IsWhole (codes "b")
+unfolding pieces first_pieces leading_piece at_escape sequence_front opened control_from string_from escape_from
+whole-b = whole 0x62 (ArePiecesOf-pieces (codes "b"))
+
+broken : IsFirstBroken (codes "c\u{1b}") 1
+unfolding pieces first_pieces leading_piece at_escape sequence_front opened control_from string_from escape_from
+broken = record {
+  before = record { kind = Text; bytes = codes "c" } ∷ [];
+  broken = record { kind = Broken; bytes = codes "\u{1b}" };
+  after = [];
+  of_text = ArePiecesOf-pieces (codes "c\u{1b}");
+  none_before = ((λ same. cc same), tt);
+  is_broken = refl;
+  place = refl;
+}
+
+not-in_quotes : EndsInQuotes (settings 44) (codes "a\nb,c\u{1b}") → ⊥
+unfolding csv_on_literals
+not-in_quotes ends = let clash : st.InField ≡ st.InQuoted = ends in cc clash
+
+inside : 5 < length {A = ℕ} (codes "a\nb,c\u{1b}")
+inside = let less : 5 < 6 = omega arith in less
+
+pub returns-clause-escape : goal.returns-clause-escape
+unfolding csv_on_literals is_utf8 chars encode
+returns-clause-escape c = record {
+  is_text = (is-text (codes "a\nb,c\u{1b}") refl, not-in_quotes);
+  before = (codes "a" ∷ []) ∷ [];
+  fields = codes "b" ∷ [];
+  here = codes "c\u{1b}";
+  behind = [];
+  after = [];
+  of_text = refl;
+  sound_records = (((is-text (codes "a") refl, whole-a), tt), tt);
+  sound_fields = ((is-text (codes "b") refl, whole-b), tt);
+  byte = 1;
+  flaw = (is-text (codes "c\u{1b}") refl, broken);
+  at = 5;
+  read = record { within = inside; in_record = refl; in_field = refl; as_byte = refl; joins = refl };
+  in_line = refl;
+  in_field = refl;
+}

@@ -17,6 +17,7 @@ use Rattle.tabled_height.specs.Steps.{GrownRows, LimitsTable, RaisesTable, Resiz
 use Rattle.tabled_list.specs.Amounts.{height_of, width_of}
 use Rattle.tabled_list.specs.Priorities.{grows_so, measured_so, shrinks_so}
 use Rattle.tabled_list.specs.declared.amount.Amount.TheVariants.{Exact}
+use Rattle.tabled_size.specs.Dimension.Stored.{Stored, none_stored}
 use Rattle.tabled_size_priority.specs.Choices.{IsGrownByChoice, IsShrunkByChoice}
 use Rattle.tabled_size_priority.specs.Growing.{IsGrownFromSide}
 use Rattle.tabled_size_priority.specs.Laws.Order.{order_one}
@@ -87,6 +88,13 @@ returns-clause-wide_enough c = λ outcome (changed, taken, left). (
   sym (ap (settled None) (widened 9 changed taken) ∙ left),
   refl,
 )
+
+abbrev sizes-of : Outcome → Stored
+sizes-of (Ok s) = s.sizes
+sizes-of (Err fault) = none_stored
+
+pub returns-clause-sizes : goal.returns-clause-sizes
+returns-clause-sizes c = λ s (changed, taken, left). sym (ap sizes-of (ap (settled None) (widened 9 changed taken) ∙ left))
 
 -- ---- a height that is exact
 
