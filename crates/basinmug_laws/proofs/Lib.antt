@@ -3,3 +3,4 @@ pub mod AdditiveLemmas
 pub mod ControlsLemmas
 pub mod SequencesLemmas
 pub mod WidthLemmas
+mod WorkedLemmas

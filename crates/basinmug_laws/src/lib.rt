@@ -5,3 +5,4 @@ pub mod additive;
 pub mod controls;
 pub mod shown;
 pub mod widths;
+pub mod worked;
