@@ -918,6 +918,8 @@ class Inputs(Basinmug):
                 self.assertPrints(b"", AB_TABLE.encode(), self.written(name, TABS))
                 self.assertPrints(b"", commas, self.written(name, AB.encode()))
                 self.assertPrints(b"", AB_TABLE.encode(), "--delimiter=,", self.written(name, AB.encode()))
+                for given, wanted in ((TABS, AB_TABLE.encode()), (AB.encode(), commas)):
+                    self.assertPrints(b"", wanted, "--head=1", self.written(name, given))
 
     def test_first_lines_choose(self):
         for given, wanted in FIRST_LINES:

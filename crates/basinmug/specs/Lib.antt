@@ -1,4 +1,5 @@
 pub mod Encodings
 pub mod Faults
+pub mod Inputs
 pub mod Kept
 pub mod Widths

@@ -1,4 +1,9 @@
 //! The bytes that a run prints, and what is between their fields.
+ghost use Rattle.std.specs.Prelude.{◌≡◌, ◌^◌, IfOk, IfSome, IsErrOf, None, OnOk, option_copied};
+ghost use Rattle.tabled_output.specs.Counts.{FailsIff, HasGivenPieces, OnlyReads, TellsEnd, inner_of};
+ghost use Rattle.tabled_output.specs.Streams.{ConsumesSome};
+ghost use Rattle.basinmug.specs.Inputs.{IsInputOf};
+
 use crate::fault::{ProgramFault, of_reading};
 use crate::kept::Kept;
 use basinmug_head::{Head, asked_or_found, read_head};
@@ -57,12 +62,21 @@ fn input_in<R: Read + Drop>(
     }
 }
 
-// All that a reader gives, or its first records.
+// All that a reader gives, or its first records. It fails with `TooLong` after 2^40 reads that gave bytes.
 fn read_input<R: Read>(
     rt: &HostRuntime,
     reader: &mut Counted<R>,
     reading: Reading<'_>,
-) -> Result<Head, ReadFault> {
+) -> Result<Head, ReadFault>
+    ensures input { IfOk result (λ input. IfSome (R.remaining (inner_of reader.old))
+        (IsInputOf reading.entry.delimiter (option_copied reading.entry.file) reading.entry.records input)) }
+    ensures some_text { IfOk result (λ input. ConsumesSome (R.remaining (inner_of reader.old)) (R.remaining (inner_of reader.new))
+        (IsInputOf reading.entry.delimiter (option_copied reading.entry.file) reading.entry.records input)) }
+    ensures whole { OnOk result (reading.entry.records ≡ None → TellsEnd reader.old reader.new) }
+    ensures read { FailsIff (IsErrOf result ReadFault.Read) reader.old reader.new }
+    ensures too_long { IsErrOf result ReadFault.TooLong → HasGivenPieces reader.old reader.new (2 ^ 40) }
+    ensures only_reads { OnlyReads reader.old reader.new }
+{
     let Some(records) = reading.records else {
         let bytes = read_to_end(rt.alloc(), reader, READS)?;
         let found = asked_or_found(reading.delimiter, &bytes, reading.file);
