@@ -1,9 +1,10 @@
 //! Encodings, widths and errors worked by hand. The functions do nothing.
 ghost use Rattle.std.specs.Prelude.{◌≡◌, ◌∷◌, [], None, Some, codes, false, true};
 ghost use Rattle.basinmug.specs.Encodings.{encoding_of, encoding_text};
-ghost use Rattle.basinmug.specs.Faults.{is_of_input, of_bytes, of_run};
+ghost use Rattle.basinmug.specs.Faults.{is_of_input, of_bytes, of_reading, of_run, program_fault_text};
 ghost use Rattle.basinmug.specs.Widths.{columns_in, columns_shown};
 ghost use Rattle.basinmug.specs.declared.encoding.Encoding.TheVariants.{Utf16, Utf32, Windows1252};
+ghost use Rattle.basinmug.specs.declared.fault.ProgramFault.{ProgramFault as OneFault};
 ghost use Rattle.basinmug.specs.declared.fault.ProgramFault.TheVariants.{Memory, NotText, Open, Read, Reading, Run, Write, Writing};
 ghost use Rattle.basinmug_input.specs.declared.fault.InputFault.TheVariants.{NotText as NoUtf8, Quote};
 ghost use Rattle.basinmug_run.specs.declared.fault.RunFault.TheVariants.{Input, Print};
@@ -11,8 +12,11 @@ ghost use Rattle.basinmug_run.specs.declared.options.ColumnsShown.TheVariants.{A
 ghost use Rattle.basinmug_run.specs.declared.picture.fault.PrintFault.TheVariants.{NoColumn, Table};
 ghost use Rattle.command_line.specs.declared.basinmug.words.WidthAsked.TheVariants.{None as AnyWidth, Columns, Environment};
 ghost use Rattle.tabled_output.specs.declared.building.BuildFault.TheVariants.{Write as BufferFailed};
-ghost use Rattle.tabled_output.specs.declared.reading.ReadFault.TheVariants.{Memory as NoMemoryToRead, TooLong};
+ghost use Rattle.tabled_output.specs.declared.reading.ReadFault.TheVariants.{Memory as NoMemoryToRead, Read as CallFailed, TooLong};
 ghost use Rattle.tabled_output.specs.declared.writing.WriteFault.TheVariants.{Write as WriteFailed, WriteZero};
+
+use crate::fault::ProgramFault;
+use std::fmt::Display;
 
 /// The encoding of bytes that begin with the mark of UTF-16 or of UTF-32 in either order, with a part of it, with another
 /// pair of its bytes, or with none.
@@ -76,6 +80,7 @@ pub fn inputs_by_hand()
     ensures quote { is_of_input (Run (Input (Quote 1))) ≡ true }
     ensures no_column { (name : _) → is_of_input (Run (Print (NoColumn name))) ≡ false }
     ensures written { (error : _) → is_of_input (Writing error) ≡ false }
+    ensures took_nothing { is_of_input (Write WriteZero) ≡ false }
     ensures memory { is_of_input Memory ≡ false }
     ensures memory_to_read { is_of_input (Read NoMemoryToRead) ≡ false }
 {}
@@ -87,4 +92,18 @@ pub fn faults_by_hand()
     ensures failed { (error : _) → of_run (Print (Table BufferFailed)) [] 0 (Some error) ≡ Writing error }
     ensures no_reason { of_run (Print (Table BufferFailed)) [] 0 None ≡ Write WriteFailed }
     ensures took_nothing { of_run (Print (Table BufferFailed)) [] 1 None ≡ Write WriteZero }
+    ensures endless { (error : _) → of_reading TooLong error ≡ Read TooLong }
+    ensures memory { (error : _) → of_reading NoMemoryToRead error ≡ Memory }
+{}
+
+/// Errors and what is printed of them. Each is printed as its own text.
+pub fn texts_by_hand()
+    ensures printed { (fault : OneFault) → ⟦<ProgramFault as Display>⟧.output fault ≡ program_fault_text fault }
+    ensures endless { program_fault_text (Read TooLong) ≡ Some (codes "input too long") }
+    ensures read { program_fault_text (Read CallFailed) ≡ Some (codes "read failed") }
+    ensures took_nothing { program_fault_text (Write WriteZero) ≡ Some (codes "writer took nothing") }
+    ensures written { program_fault_text (Write WriteFailed) ≡ Some (codes "write failed") }
+    ensures no_text { program_fault_text (NotText (NoUtf8 1 2) Utf16) ≡ Some (codes "line 1, field 2: not UTF-8 (UTF-16: iconv -f UTF-16 -t UTF-8)") }
+    ensures quote { program_fault_text (Run (Input (Quote 3))) ≡ Some (codes "line 3: a quote that is not closed") }
+    ensures memory { program_fault_text Memory ≡ Some (codes "out of memory") }
 {}

@@ -82,6 +82,9 @@ pub fn found_by_hand()
     ensures other_second_byte { found_in (0xef ∷ 0x3b ∷ 0xbf ∷ []) None ≡ record { delimiter = 0x3b; start = 0 } }
     ensures other_first_byte { found_in (0x3b ∷ 0xbb ∷ 0xbf ∷ []) None ≡ record { delimiter = 0x3b; start = 0 } }
     ensures capital { found_in (codes "Sep=;\na|b") None ≡ record { delimiter = 0x3b; start = 0 } }
+    ensures no_sign { found_in (codes "sepia\na|b") None ≡ record { delimiter = 0x2c; start = 0 } }
+    ensures other_second_letter { found_in (codes "sap=;\na|b") None ≡ record { delimiter = 0x3b; start = 0 } }
+    ensures other_third_letter { found_in (codes "set=;\na|b") None ≡ record { delimiter = 0x3b; start = 0 } }
     ensures names_no_ascii { found_in (codes "sep=" ++ 0xa7 ∷ codes "\na|b") None ≡ record { delimiter = 0x2c; start = 0 } }
 {}
 

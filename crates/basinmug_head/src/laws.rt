@@ -16,6 +16,7 @@ pub fn heads_by_hand()
     ensures few { IsHeadOf (Some 0x2c) None 7 (codes "a\nb") (record { delimiter = 0x2c; start = 0 }) (codes "a\nb") }
     ensures none { IsHeadOf (Some 0x2c) None 0 [] (record { delimiter = 0x2c; start = 0 }) (codes "a\n") }
     ensures by_name { asked_or_found None (codes "a|b") (Some (codes "x.tsv")) ≡ record { delimiter = 0x09; start = 0 } }
+    ensures head_by_name { IsHeadOf None (Some (codes "x.tsv")) 1 (codes "a|b\n") (record { delimiter = 0x09; start = 0 }) (codes "a|b\nc\n") }
     ensures marked { records_of (record { delimiter = 0x2c; start = 0 }) (0xef ∷ 0xbb ∷ 0xbf ∷ codes "a,b") ≡ (codes "a" ∷ codes "b" ∷ []) ∷ [] }
     ensures asked_before_a_name { asked_or_found (Some 0x2c) (codes "sep=;\na") None ≡ record { delimiter = 0x2c; start = 0 } }
 {}

@@ -35,6 +35,12 @@ returns c = record {
     first = refl;
   };
   by_name = refl;
+  head_by_name = record {
+    finding = record { front = codes "a|b\nc\n"; behind = []; parts = refl; told = inl refl; found_by = refl };
+    behind = codes "c\n";
+    front = refl;
+    first = refl;
+  };
   marked = refl;
   asked_before_a_name = refl;
 }
