@@ -30,7 +30,7 @@ use grid_records_traits::{Dimension, Records};
 /// Estimates that were worked out by hand:
 /// - a span of two over two, with a boundary between them; a remainder;
 /// - a span that reaches out of the table, and one with a single column left;
-/// - two spans that overlap; a short one after a long one;
+/// - two spans that overlap; a short one after a long one; two over the same tracks;
 /// - cells of one column, and hidden ones; no rows.
 #[tactic(auto, unfolding(crate::specs::Estimates::track_sizes))]
 pub fn worked_estimates()
@@ -41,6 +41,8 @@ pub fn worked_estimates()
     ensures overlapping { track_sizes (table false 3 (((2, 4) ∷ (0, 9) ∷ (1, 1) ∷ []) ∷ ((1, 1) ∷ (2, 5) ∷ (0, 9) ∷ []) ∷ [])) ≡ 3 ∷ 3 ∷ 2 ∷ [] }
     ensures shorter_first { track_sizes (table false 3 (((3, 9) ∷ (0, 0) ∷ (0, 0) ∷ []) ∷ ((1, 0) ∷ (2, 6) ∷ (0, 0) ∷ []) ∷ [])) ≡ 1 ∷ 4 ∷ 4 ∷ [] }
     ensures greatest { track_sizes (table true 2 (((1, 3) ∷ (1, 1) ∷ []) ∷ ((1, 2) ∷ (0, 9) ∷ []) ∷ [])) ≡ 3 ∷ 1 ∷ [] }
+    ensures by_cross_track { track_sizes (table false 2 (((2, 3) ∷ (0, 0) ∷ []) ∷ ((2, 4) ∷ (0, 0) ∷ []) ∷ [])) ≡ 3 ∷ 1 ∷ [] }
+    ensures greater_first { track_sizes (table false 2 (((2, 4) ∷ (0, 0) ∷ []) ∷ ((2, 3) ∷ (0, 0) ∷ []) ∷ [])) ≡ 2 ∷ 2 ∷ [] }
     ensures no_rows { track_sizes (table true 2 []) ≡ [] }
 {}
 

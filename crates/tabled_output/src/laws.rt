@@ -1,11 +1,11 @@
 //! Laws of what the contracts cite.
 
-ghost use Rattle.std.specs.Prelude.{◌≡◌, ◌↔◌, Some, true};
+ghost use Rattle.std.specs.Prelude.{◌≡◌, ◌↔◌, ℕ, Ok, Some, [], codes, false, true};
 ghost use Rattle.grid_config_values.specs.declared.fault.Fault.{Fault as TableFault};
 ghost use Rattle.grid_config_values.specs.declared.fault.Fault.TheVariants.{Memory};
 ghost use Rattle.std.specs.declared.alloc.AllocError.{AllocError as Refused};
 ghost use Rattle.tabled_output.specs.Building.{build_fault_text, writing_fault};
-ghost use Rattle.tabled_output.specs.Counts.{inner_of};
+ghost use Rattle.tabled_output.specs.Counts.{inner_of, is_write_refused, tells_end, writes_of_nothing_after};
 ghost use Rattle.tabled_output.specs.Faults.{fault_text, read_fault_text};
 ghost use Rattle.tabled_output.specs.declared.counted.Counted.{Counted as Counting};
 ghost use Rattle.tabled_output.specs.declared.building.BuildFault.{BuildFault as OneBuildFault};
@@ -59,4 +59,14 @@ pub fn build_faults_are_compared_cloned_and_printed_whole<T: Drop>()
 pub fn counted_streams_are_those_within<R: Read, W: Write>()
     ensures remaining { (stream : Counting R) → ⟦<Counted<R> as Read>⟧.remaining stream ≡ R.remaining (inner_of stream) }
     ensures contents { (stream : Counting W) → ⟦<Counted<W> as Write>⟧.contents stream ≡ W.contents (inner_of stream) }
+{}
+
+/// Writes of an empty piece are counted, and no others; a write that took a byte is not refused; a read reports the end by
+/// giving no byte.
+pub fn counts_by_hand()
+    ensures of_nothing { writes_of_nothing_after [] 3 ≡ 4 }
+    ensures of_some { writes_of_nothing_after (codes "a") 3 ≡ 3 }
+    ensures accepted { is_write_refused {E = ℕ} (Ok 1) (codes "a") ≡ false }
+    ensures end { tells_end {E = ℕ} (Ok 0) ≡ true }
+    ensures no_end { tells_end {E = ℕ} (Ok 1) ≡ false }
 {}

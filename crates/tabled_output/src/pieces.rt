@@ -7,7 +7,8 @@ use crate::writing::{WriteFault, write_all};
 use std::io::Write;
 
 /// Writes the line in the buffer, and then the buffer is empty and keeps its memory. Where the writer does not take
-/// all of it, the buffer is as it was. For an empty buffer the writer is not called.
+/// all of it, the buffer is as it was: `Write` where a write fails, `WriteZero` where one takes nothing. For an empty
+/// buffer the writer is not called.
 #[inline(always)]
 pub fn pass_line<W: Write>(writer: &mut Counted<W>, buffer: &mut String) -> Result<(), WriteFault>
     ensures passed { OnOk result (HasPassed W.contents (string_bytes buffer.old) (string_bytes buffer.new) writer.old writer.new) }

@@ -5,8 +5,10 @@ ghost use Rattle.tabled_size_priority.specs.LevelRules.Columns.{from_side};
 ghost use Rattle.tabled_size_priority.specs.Choices.{IsGrownByChoice, IsShrunkByChoice};
 ghost use Rattle.tabled_size_priority.specs.Chosen.{HoldsThen, chosen};
 ghost use Rattle.tabled_size_priority.specs.Growing.{IsGrownByNarrowest, IsGrownByWidest, IsGrownFromSide, IsGrownInTurns, grown_to_level};
+ghost use Rattle.tabled_size_priority.specs.Leasts.{NamesInTwoSteps, OwnLeasts};
 ghost use Rattle.tabled_size_priority.specs.Levels.{AreAtLeast, AreAtMost, CouldBeGrown, CouldBeShrunk, IsGreatestLevel, IsLeastLevel};
 ghost use Rattle.tabled_size_priority.specs.Peaks.{narrowest_peaks, side_peaks, start_of, turn_peaks, widest_peaks};
+ghost use Rattle.tabled_size_priority.specs.Running.{IsGrownBy, IsShrunkBy};
 ghost use Rattle.tabled_size_priority.specs.Shrinking.{IsOfForm, IsShrunkByNarrowest, IsShrunkByWidest, IsShrunkFromSide, IsShrunkInTurns, shrunk_sum, shrunk_to_level};
 ghost use Rattle.tabled_size_priority.specs.Turns.{grows_in_turns, shrinks_in_turns};
 ghost use Rattle.tabled_size_priority.specs.declared.choice.Choice.{Choice as OneChoice};
@@ -14,11 +16,15 @@ ghost use Rattle.tabled_size_priority.specs.declared.choice.Choice.TheVariants.{
 ghost use Rattle.tabled_size_priority.specs.declared.chosen.PriorityChosen.{PriorityChosen as OneChosen};
 ghost use Rattle.tabled_size_priority.specs.declared.chosen.PriorityChosen.TheVariants.{None as GoesRound, Min as NarrowestFirst, Max as WidestFirst, Left as LeftFirst, Right as RightFirst};
 ghost use Rattle.tabled_size_priority.specs.declared.left.PriorityLeft.{PriorityLeft as FromLeft};
+ghost use Rattle.tabled_size_priority.specs.declared.levels.order.Order.{Order as OneOrder};
+ghost use Rattle.tabled_size_priority.specs.declared.levels.rule.Rule.{Rule as OneRule};
 ghost use Rattle.tabled_size_priority.specs.declared.right.PriorityRight.{PriorityRight as FromRight};
 
 use crate::choice::Choice;
 use crate::chosen::PriorityChosen;
+use crate::least::PriorityLeast;
 use crate::left::PriorityLeft;
+use crate::levels::{Order, Rule};
 use crate::max::PriorityMax;
 use crate::min::PriorityMin;
 use crate::none::PriorityNone;
@@ -268,4 +274,23 @@ pub fn priorities_name_their_columns()
         ⟦<PriorityRight as Peaker>⟧.peaks before least sizes answer after → side_peaks true before least sizes answer after }
     ensures widest { (side after : Bool) (least sizes : List ℕ) (answer : Option ℕ) → ⟦<PriorityMax as Peaker>⟧.peaks side least sizes answer after → widest_peaks side least sizes answer after }
     ensures narrowest { (side after : Bool) (least sizes : List ℕ) (answer : Option ℕ) → ⟦<PriorityMin as Peaker>⟧.peaks side least sizes answer after → narrowest_peaks side least sizes answer after }
+{}
+
+/// A priority with leasts of its own names the columns that its two steps name, and shrinks and grows by those, one column
+/// of width at a time.
+pub fn own_leasts_go_in_two_steps<P: Peaker>()
+    ensures peaks { (before after : OwnLeasts P) (least sizes : List ℕ) (answer : Option ℕ) →
+        ⟦<PriorityLeast<P> as Peaker>⟧.peaks before least sizes answer after → NamesInTwoSteps P.peaks before least sizes answer after }
+    ensures shrunk { (before after : OwnLeasts P) (least widths sizes : List ℕ) (by : ℕ) →
+        ⟦<PriorityLeast<P> as Peaker>⟧.shrinks before least by widths after sizes → IsShrunkBy (NamesInTwoSteps P.peaks) before least by widths after sizes }
+    ensures grown { (before after : OwnLeasts P) (widths sizes : List ℕ) (by : ℕ) →
+        ⟦<PriorityLeast<P> as Peaker>⟧.grows before by widths after sizes → IsGrownBy (NamesInTwoSteps P.peaks) before by widths after sizes }
+{}
+
+/// A clone of an order of columns, or of a rule by which they move, is the same.
+pub fn clones_of_orders_are_the_same()
+    ensures order { (source clone : OneOrder) → ⟦<Order as Clone>⟧.is_clone source clone → clone ≡ source }
+    ensures rule { (source clone : OneRule) → ⟦<Rule as Clone>⟧.is_clone source clone → clone ≡ source }
+    ensures order_comes { (source : OneOrder) → ⟦<Order as Clone>⟧.is_infallible source }
+    ensures rule_comes { (source : OneRule) → ⟦<Rule as Clone>⟧.is_infallible source }
 {}

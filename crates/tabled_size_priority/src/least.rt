@@ -8,8 +8,8 @@ use crate::search::first_within;
 use std::marker::Model;
 
 /// A priority with a least width for each column: columns shrink to the greater of it and of the table's
-/// least first, as the priority says, and where that is not enough, on to the table's leasts. Where it has not
-/// as many leasts as there are columns they don't count. Columns grow as the priority says.
+/// least first, as the priority says, and where that is not enough, on to the table's leasts; it keeps the greater
+/// ones. Where it has not as many leasts as there are columns they don't count. Columns grow as the priority says.
 #[derive(Debug, Drop)]
 pub struct PriorityLeast<P> {
     priority: P,

@@ -1,5 +1,5 @@
 //! Laws of the definitions that the other contracts cite, and rows worked by hand.
-ghost use Rattle.std.specs.Prelude.{◌≡◌, ◌++◌, ℕ, ℤ, Bool, List, String as Bytes, [], ◌∷◌, None, Some, codes, decimal, encode_utf8, length, map, replicate, string_bytes, true, vec_len};
+ghost use Rattle.std.specs.Prelude.{◌≡◌, ◌++◌, ℕ, ℤ, Bool, List, String as Bytes, [], ◌∷◌, None, Some, codes, decimal, encode_utf8, false, length, map, replicate, string_bytes, true, vec_len};
 ghost use Rattle.std.specs.Borrow.{Bor};
 ghost use Rattle.std.specs.Fmt.{signed_decimal};
 ghost use Rattle.std.specs.Global.{Box as BoxOf};
@@ -30,6 +30,7 @@ pub fn fields_by_hand()
     ensures missing { fields_or_empty (λ text. text ∷ text ∷ []) 2 None ≡ [] ∷ [] ∷ [] }
     ensures there { fields_or_empty (λ text. text ∷ text ∷ []) 2 (Some (codes "a")) ≡ codes "a" ∷ codes "a" ∷ [] }
     ensures yes { bool_text true ≡ codes "true" }
+    ensures no { bool_text false ≡ codes "false" }
 {}
 
 /// The text of each single value, and which of them lend theirs.

@@ -60,6 +60,14 @@ pub fn empty_records_are_compared_and_cloned_whole()
     ensures refuses_none { (records : Blank) → ⟦<EmptyRecords as RecordTexts>⟧.can_fail records ≡ false }
 {}
 
+/// A clone of rows of empty texts that are left, or of what is left of one, is the same, and is never refused.
+pub fn clones_of_empty_rows_are_the_same()
+    ensures rows { (source clone : BlankRows) → ⟦<EmptyRows as Clone>⟧.is_clone source clone → clone ≡ source }
+    ensures texts { (source clone : BlankCells) → ⟦<EmptyCells as Clone>⟧.is_clone source clone → clone ≡ source }
+    ensures rows_come { (source : BlankRows) → ⟦<EmptyRows as Clone>⟧.is_infallible source }
+    ensures texts_come { (source : BlankCells) → ⟦<EmptyCells as Clone>⟧.is_infallible source }
+{}
+
 /// After its end an iterator over rows of empty texts has none left; no more are left than are still to come.
 pub fn empty_rows_end_for_good()
     ensures rows { (before after : BlankRows) → ⟦<EmptyRows as Iterator>⟧.next_gives before None after → ⟦<EmptyRecords as IntoRecords>⟧.rows_left after ≡ [] }
