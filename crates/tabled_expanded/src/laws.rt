@@ -1,5 +1,5 @@
 //! Laws of what the other contracts cite, tables, cuts and escapes worked by hand, and a closure that gives heads.
-ghost use Rattle.std.specs.Prelude.{◌≡◌, ◌↔◌, ℕ, IfOk, List, Result, String as Bytes, Vec as List1, [], ◌∷◌, ◌++◌, codes, length, string_bytes, true, false};
+ghost use Rattle.std.specs.Prelude.{◌≡◌, ◌↔◌, ℕ, IfOk, List, Result, String as Bytes, Vec as List1, [], ◌∷◌, ◌++◌, codes, length, replicate, string_bytes, true, false};
 ghost use Rattle.std.specs.declared.alloc.Global.{Global as Heap};
 ghost use Rattle.grid_config_values.specs.declared.fault.Fault.{Fault as TableFault};
 ghost use Rattle.tabled_expanded.specs.Cutting.{Fields, Values, can_be_truncated, cut_for, cut_text};
@@ -88,6 +88,8 @@ pub fn cuts_by_hand()
     ensures has_room { can_be_truncated 14 [] (table_of_rows ((codes "name" ∷ []) ∷ (codes "abcdefghij" ∷ []) ∷ [])) ≡ true }
     ensures has_none { can_be_truncated 13 [] (table_of_rows ((codes "name" ∷ codes "x" ∷ []) ∷ (codes "C" ∷ codes "1" ∷ []) ∷ [])) ≡ false }
     ensures suffix_fits { can_be_truncated 14 (codes ".....") (table_of_rows ((codes "abcdefghijkl" ∷ []) ∷ (codes "x" ∷ []) ∷ [])) ≡ true }
+    ensures values_have_none { can_be_truncated 14 (codes "..") (table_of_rows ((codes "abcdefgh" ∷ []) ∷ (codes "x" ∷ []) ∷ [])) ≡ false }
+    ensures ten_records { can_be_truncated 14 [] (table_of_rows ((codes "n" ∷ []) ∷ replicate 10 (codes "x" ∷ []))) ≡ false }
     ensures suffix_does_not { can_be_truncated 14 (codes "......") (table_of_rows ((codes "abcdefghijkl" ∷ []) ∷ (codes "x" ∷ []) ∷ [])) ≡ false }
 {}
 

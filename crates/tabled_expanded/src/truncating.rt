@@ -23,8 +23,8 @@ impl<F> ExtendedTable<F> {
     /// Cuts the values to what is left of `max` columns of the terminal beside the widest field, the three columns
     /// of the bar and twice the suffix. Where the fields leave nothing of them, it cuts the fields so, and the values
     /// to nothing. After each text that lost bytes follows `suffix`. Returns false, and changes nothing, where the
-    /// number of a record or the suffix does not fit. Fails only where allocation fails, and then nothing has
-    /// changed.
+    /// suffix does not fit, or not a head with as many digits as the number of all records has: of ten records, whose
+    /// heads take 14 columns, none fits 14. Fails only where allocation fails, and then nothing has changed.
     pub fn truncate(&mut self, alloc: Global, max: usize, suffix: &str) -> Result<bool, Fault>
         ensures answer { IfOk result (λ done. done ≡ can_be_truncated max suffix.now (expanded self.old)) }
         ensures cut { OnOk result (expanded self.new ≡ truncated max suffix.now (expanded self.old)) }

@@ -1,5 +1,6 @@
 //! What tables are made of, worked out by hand: texts of errors, colours, tabs, sides, rooms, counts and orders. Laws alone.
-ghost use Rattle.std.specs.Prelude.{◌≡◌, ◌∷◌, ◌-◌, ◌^◌, ℕ, List, Err, None, Ok, Some, [], codes, false, true};
+ghost use Rattle.std.specs.Prelude.{◌≡◌, ◌∷◌, ◌-◌, ◌^◌, ℕ, List, String as Bytes, Err, None, Ok, Some, [], codes, false, string_bytes, true};
+ghost use Rattle.std.proofs.Common.{Global as Heap};
 ghost use Rattle.std.specs.declared.cmp.Ordering.TheVariants.{Greater, Less};
 ghost use Rattle.ansi_scan.specs.Pieces.{pieces};
 ghost use Rattle.grid_config.specs.Ansi.Colors.{color_of, is_no_color, no_color};
@@ -24,10 +25,11 @@ ghost use Rattle.papergrid_picture.specs.Picture.{at};
 ghost use Rattle.tabled.specs.Tables.{new_look};
 ghost use Rattle.tabled_compact.specs.Columns.{spaced_widths};
 ghost use Rattle.tabled_compact.specs.Iter.Tables.{begun};
+ghost use Rattle.tabled_compact.specs.Tables.{begun_settings};
 ghost use Rattle.tabled_list.specs.Settings.{cutting_by, setting_step};
 ghost use Rattle.tabled_list.specs.Stripping.Printing.{printed};
 ghost use Rattle.tabled_list.specs.declared.amount.Amount.TheVariants.{Exact};
-ghost use Rattle.tabled_list.specs.declared.setting.Setting.TheVariants.{HeightIncrease, HeightLimit, MinWidth};
+ghost use Rattle.tabled_list.specs.declared.setting.Setting.TheVariants.{HeightIncrease, HeightLimit, MinWidth, Truncate};
 ghost use Rattle.tabled_options.specs.Formatting.{with_strategy, with_trim};
 ghost use Rattle.tabled_options.specs.Multiline.Multiline.{multiline_look, over};
 ghost use Rattle.tabled_options.specs.Options.{filled_sides, spaced_sides};
@@ -41,10 +43,10 @@ ghost use Rattle.tabled_output.specs.declared.reading.ReadFault.TheVariants.{Mem
 ghost use Rattle.tabled_output.specs.declared.writing.WriteFault.TheVariants.{Write, WriteZero};
 ghost use Rattle.tabled_pool.specs.Boxes.Order.{compared};
 ghost use Rattle.tabled_pool.specs.Boxes.Values.{Beside, Member, NoMore, Stacked, Text};
-ghost use Rattle.tabled_pool.specs.Pools.{begun as begun_pool, rows_nesting, text_of};
+ghost use Rattle.tabled_pool.specs.Pools.{PassesRange, begun as begun_pool, rows_nesting, text_of};
 ghost use Rattle.tabled_size.specs.Dimension.Order.{stored_cmp};
 ghost use Rattle.tabled_size.specs.Dimension.Stored.{none_stored};
-ghost use Rattle.tabled_size.specs.declared.dimension.suffix.SuffixLimit.TheVariants.{Cut};
+ghost use Rattle.tabled_size.specs.declared.dimension.suffix.SuffixLimit.TheVariants.{Cut, Replace};
 ghost use Rattle.tabled_size_priority.specs.Leasts.{GoInTwoSteps, greater};
 ghost use Rattle.tabled_size_priority.specs.declared.choice.Choice.TheVariants.{Left as FromLeft};
 ghost use Rattle.tabled_steps.specs.Looks.{with_column_span};
@@ -154,6 +156,7 @@ pub fn orders_by_hand()
     ensures width_first { widening_cmp (record { width = 2; fill = 0x61; priority = 0 }) (record { width = 1; fill = 0x62; priority = 5 }) ≡ Greater }
     ensures then_fill { widening_cmp (record { width = 1; fill = 0x62; priority = 0 }) (record { width = 1; fill = 0x61; priority = 5 }) ≡ Greater }
     ensures cut_width_first { truncation_cmp (record { width = 1; cutting = cutting_by (codes "b") Cut true true; priority = 9 }) (record { width = 2; cutting = cutting_by (codes "a") Cut false false; priority = 0 }) ≡ Less }
+    ensures then_lines { truncation_cmp (record { width = 1; cutting = cutting_by (codes "a") Cut false true; priority = 9 }) (record { width = 1; cutting = cutting_by (codes "a") Cut true false; priority = 0 }) ≡ Less }
     ensures then_suffix { truncation_cmp (record { width = 1; cutting = cutting_by (codes "b") Cut false false; priority = 0 }) (record { width = 1; cutting = cutting_by (codes "a") Cut true true; priority = 9 }) ≡ Greater }
 {}
 
@@ -190,11 +193,15 @@ pub fn rooms_by_hand()
     ensures too_narrow { text_room new_look (4 ∷ []) (3 ∷ []) (at 0 0) ≡ None }
 {}
 
-/// A pool that no call has changed: its rows are one below the other, what is left over is shared, and texts are at the top.
-/// Its settings keep their places. A row comes before a column, that before a text, and what has fewer members before what
-/// has more.
+/// A pool that no call has changed: its rows are one below the other, what is left over is shared, and texts are at the top;
+/// without rows it is an empty box. One with its margin is as high as `usize::MAX` at most. Its settings keep their places. A
+/// row comes before a column, that before a text, and what has fewer members before what has more.
 pub fn pools_by_hand()
     ensures new { text_of (begun_pool (rows_nesting ((codes "a" ∷ codes "x\ny" ∷ []) ∷ (codes "abcdefg" ∷ []) ∷ []))) ≡ codes "+----+----+\n| a  | x  |\n|    | y  |\n+----+----+\n| abcdefg |\n+---------+" }
+    ensures no_rows { text_of (begun_pool (rows_nesting [])) ≡ codes "+--+\n|  |\n+--+" }
+    ensures shared_lines { text_of (begun_pool (Beside (Member (Stacked (Member (Text (codes "a")) (Member (Text (codes "b")) NoMore))) (Member (Text (codes "1\n2\n3\n4\n5")) NoMore)))) ≡ codes "+---+---+\n| a | 1 |\n|   | 2 |\n+---+ 3 |\n| b | 4 |\n|   | 5 |\n+---+---+" }
+    ensures highest { ¬ PassesRange (record (begun_pool (Text [])) { settings = over (record begun_settings { margin = spaced_sides 0 0 (2 ^ 64 - 4) 0 }) }) }
+    ensures too_high { PassesRange (record (begun_pool (Text [])) { settings = over (record begun_settings { margin = spaced_sides 0 0 (2 ^ 64 - 3) 0 }) }) }
     ensures trims_ends { (multiline_look (record (over new_compact) { formatting = record { horizontal_trim = true; vertical_trim = false; allow_lines_alignment = false } })).trim_horizontal (at 0 0) ≡ true }
     ensures trims_lines { (multiline_look (record (over new_compact) { formatting = record { horizontal_trim = false; vertical_trim = true; allow_lines_alignment = false } })).trim_vertical (at 0 0) ≡ true }
     ensures aligns_lines { (multiline_look (record (over new_compact) { formatting = record { horizontal_trim = false; vertical_trim = false; allow_lines_alignment = true } })).line_alignment (at 0 0) ≡ true }
@@ -205,11 +212,14 @@ pub fn pools_by_hand()
 {}
 
 /// Tables that get a height or a width: the first row, or column, gets what they lack, or gives what is too much, and then
-/// has fewer lines. A table that is wide enough stays; the sizes that its texts need are kept.
+/// has fewer lines, or its text is cut: a suffix comes after it, in its style where that is requested, or a character in its
+/// place where the suffix does not fit. A table that is wide enough stays; the sizes that its texts need are kept.
 pub fn resized_tables_by_hand()
     ensures higher { Gives (HeightIncrease (Exact 6) FromLeft) (below (codes "a") (codes "b")) (codes "+---+\n| a |\n|   |\n+---+\n| b |\n+---+") }
     ensures lower { Gives (HeightLimit (Exact 6) FromLeft) (below (codes "a\nb\nc") (codes "d\ne")) (codes "+---+\n| a |\n+---+\n| d |\n| e |\n+---+") }
     ensures wider { Gives (MinWidth (Exact 10) FromLeft) (beside (codes "a") (codes "b")) (codes "+----+---+\n| a  | b |\n+----+---+") }
     ensures sizes { (left : State) → setting_step (MinWidth (Exact 9) FromLeft) (beside (codes "a") (codes "b")) (Ok left) → left.sizes ≡ record { widths = Some (3 ∷ 3 ∷ []); heights = Some (1 ∷ []) } }
+    ensures in_its_style { (suffix : Bytes Heap) → string_bytes suffix ≡ codes "." → Gives (Truncate (Exact 6) suffix Cut false true FromLeft) (of_one (codes "\u{1b}[31mabc\u{1b}[0m")) (codes "+----+\n| \u{1b}[31ma\u{1b}[39m\u{1b}[31m.\u{1b}[39m |\n+----+") }
+    ensures replaced { (suffix : Bytes Heap) → string_bytes suffix ≡ codes ".." → Gives (Truncate (Exact 6) suffix (Replace 0x23) true false FromLeft) (of_one (codes "abc")) (codes "+----+\n| ## |\n+----+") }
     ensures wide_enough { Gives (MinWidth (Exact 9) FromLeft) (beside (codes "a") (codes "b")) (codes "+---+---+\n| a | b |\n+---+---+") }
 {}

@@ -51,6 +51,7 @@ pub fn settings_by_hand()
     ensures trimmed { Gives (TrimHorizontal EveryCell true) (of_one (codes " a")) (codes "+----+\n| a  |\n+----+") }
     ensures trimmed_lines { Gives (TrimVertical EveryCell true) (of_one (codes "\na")) (codes "+---+\n| a |\n|   |\n+---+") }
     ensures justified { Gives (Justification EveryCell 0x2e) (below (codes "a") (codes "bc")) (codes "+----+\n| a. |\n+----+\n| bc |\n+----+") }
+    ensures other_fill { Gives (Justification (OneColumn 1) 0x2e) (below (codes "a") (codes "bc")) (codes "+----+\n| a  |\n+----+\n| bc |\n+----+") }
     ensures two_columns { Gives (ColumnSpan (at 0 0) 2) square (codes "+---+---+\n| a     |\n+---+---+\n| c | d |\n+---+---+") }
     ensures two_rows { Gives (RowSpan (at 0 0) 2) square (codes "+---+---+\n| a | b |\n+   +---+\n|   | d |\n+---+---+") }
     ensures colored { Gives (Color (OneColumn 1) red) (beside (codes "a") (codes "b")) (codes "+---+---+\n| a | \u{1b}[31mb\u{1b}[39m |\n+---+---+") }
@@ -66,13 +67,15 @@ pub fn sizes_are_forgotten()
     ensures colored { (s last : State) → setting_step (Color (OneColumn 1) red) s (Ok last) → last.sizes ≡ none_stored }
 {}
 
-/// What settings of cells make of their texts. A text is filled with dots up to a width, or wrapped at it. It gets a
-/// second line, or keeps the first. All texts are justified.
+/// What settings of cells make of their texts. A text is filled with dots up to a width, or wrapped at it, also between
+/// words. It gets a second line, or keeps the first; a text of another column stays. All texts are justified.
 pub fn cell_sizes_by_hand()
     ensures filled { Gives (CellMinWidth EveryCell (Exact 3) 0x2e) (of_one (codes "a")) (codes "+-----+\n| a.. |\n+-----+") }
     ensures wrapped { Gives (CellWrap EveryCell (Exact 1) false) (of_one (codes "ab")) (codes "+---+\n| a |\n| b |\n+---+") }
+    ensures by_words { Gives (CellWrap EveryCell (Exact 4) true) (of_one (codes "ab cd")) (codes "+-----+\n| ab  |\n| cd  |\n+-----+") }
     ensures raised { Gives (CellHeightIncrease EveryCell (Exact 2)) (of_one (codes "a")) (codes "+---+\n| a |\n|   |\n+---+") }
     ensures limited { Gives (CellHeightLimit EveryCell (Exact 1)) (of_one (codes "a\nb")) (codes "+---+\n| a |\n+---+") }
+    ensures other_column { Gives (CellHeightLimit (OneColumn 1) (Exact 1)) (beside (codes "a\nb") (codes "c\nd")) (codes "+---+---+\n| a | c |\n| b |   |\n+---+---+") }
     ensures justified { Gives (Justify (Exact 3)) (below (codes "a") (codes "bcde")) (codes "+-----+\n| a   |\n+-----+\n| bcd |\n+-----+") }
 {}
 

@@ -166,7 +166,7 @@ impl CompactMultilineConfig {
         self.alignment_vertical
     }
 
-    /// Sets how the lines of a text are laid out.
+    /// Sets how the lines of a text are laid out. A pool reads only how they are aligned, and trims nothing.
     pub fn set_formatting(&mut self, value: Formatting)
         ensures { multiline_of self.new ≡ record (multiline_of self.old) { formatting = value } }
     {

@@ -33,3 +33,11 @@ returns-clause-suffix_fits c = refl
 pub returns-clause-suffix_does_not : goal.returns-clause-suffix_does_not
 unfolding digits pieces first_pieces leading_piece chars str_width step past_emoji
 returns-clause-suffix_does_not c = refl
+
+pub returns-clause-values_have_none : goal.returns-clause-values_have_none
+unfolding digits pieces first_pieces leading_piece chars str_width step past_emoji
+returns-clause-values_have_none c = refl
+
+pub returns-clause-ten_records : goal.returns-clause-ten_records
+unfolding digits pieces first_pieces leading_piece chars str_width step past_emoji
+returns-clause-ten_records c = refl

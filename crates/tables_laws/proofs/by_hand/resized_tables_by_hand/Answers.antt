@@ -2,7 +2,7 @@
 use Rattle.std.specs.Fmt.{digits}
 use Rattle.std.specs.Prelude.{MatchResult, nat_lt}
 use Rattle.std.specs.Str.{chars}
-use Rattle.std.proofs.Common.{◌≡◌, ◌∙◌, ◌∷◌, ◌<◌, ◌-◌, ◌+◌, ℕ, Err, List, None, Ok, Option, Result, Some, [], ap, arith, codes, false, refl, subst, sym}
+use Rattle.std.proofs.Common.{◌≡◌, ◌∙◌, ◌∷◌, ◌<◌, ◌-◌, ◌+◌, ℕ, Bool, Err, List, None, Ok, Option, Result, Some, [], ap, arith, codes, false, refl, subst, sym, true}
 use Rattle.std.proofs.Math.Utf8.{encode}
 use Rattle.unicode_width.specs.Width.{alone, char_width, past_emoji, step, str_width}
 use Rattle.ansi_scan.specs.Attributes.{plain_attributes}
@@ -16,8 +16,11 @@ use Rattle.tabled_height.specs.Heights.{HeightEstimate, estimate_with, estimated
 use Rattle.tabled_height.specs.Steps.{GrownRows, LimitsTable, RaisesTable, Resizes, ShrunkRows, keeping_heights, limiting_rows}
 use Rattle.tabled_list.specs.Amounts.{height_of, width_of}
 use Rattle.tabled_list.specs.Priorities.{grows_so, measured_so, shrinks_so}
+use Rattle.tabled_list.specs.Settings.{cutting_by}
 use Rattle.tabled_list.specs.declared.amount.Amount.TheVariants.{Exact}
 use Rattle.tabled_size.specs.Dimension.Stored.{Stored, none_stored}
+use Rattle.tabled_size.specs.declared.dimension.suffix.SuffixLimit.{SuffixLimit}
+use Rattle.tabled_size.specs.declared.dimension.suffix.SuffixLimit.TheVariants.{Cut, Replace}
 use Rattle.tabled_size_priority.specs.Choices.{IsGrownByChoice, IsShrunkByChoice}
 use Rattle.tabled_size_priority.specs.Growing.{IsGrownFromSide}
 use Rattle.tabled_size_priority.specs.Laws.Order.{order_one}
@@ -26,12 +29,14 @@ use Rattle.tabled_size_priority.specs.Peaking.{InPlace, IsFirstAbove}
 use Rattle.tabled_size_priority.specs.Shrinking.{IsShrunkFromSide, shrunk_sum}
 use Rattle.tabled_size_priority.specs.declared.choice.Choice.TheVariants.{Left as FromLeft}
 use Rattle.tabled_size_wrap.specs.Bytes.{cut_at, wrapped_text}
+use Rattle.tabled_steps.specs.Outcomes.{all_sized}
 use Rattle.tabled_steps.specs.Sizes.{natural_heights, natural_widths}
-use Rattle.tabled_steps.specs.States.{Outcome, State, column_count, settled}
-use Rattle.tabled_width.specs.Rooms.{column_widths}
+use Rattle.tabled_steps.specs.States.{Outcome, Settles, State, column_count, settled}
+use Rattle.tabled_width.specs.Rooms.{column_widths, empty_widths}
 use Rattle.tabled_width.specs.Steps.{Then}
-use Rattle.tabled_width.specs.Tables.{Grown, TableSizes, Where, Widens, WidensTable, keeping, sizes_with, table_sizes}
-use Rattle.tables_laws.specs.Worked.Tables.{below, beside}
+use Rattle.tabled_width.specs.Tables.{Grown, Narrows, NarrowsTable, Shrunk, TableSizes, Where, Widens, WidensTable, keeping, narrowed_state, sizes_with, table_sizes}
+use Rattle.tabled_width_texts.specs.Cutting.{truncating}
+use Rattle.tables_laws.specs.Worked.Tables.{below, beside, of_one}
 use Rattle.tables_laws.proofs.by_hand.resized_tables_by_hand.Goals as goal
 
 -- ---- the first of two gets all
@@ -160,3 +165,71 @@ limited changed taken =
 pub returns-clause-lower : goal.returns-clause-lower
 unfolding natural_widths natural_heights track_sizes cut_at wrapped_text text_width text_height text_lines str_width char_width alone step past_emoji pieces first_pieces leading_piece at_escape sequence_front opened control_from string_from escape_from applied after_parameters plain_attributes start_bytes start_sequences end_bytes end_sequences digits chars encode
 returns-clause-lower c = λ outcome (changed, taken, left). (limiting_rows (Some (1 ∷ 2 ∷ [])) five-texts, sym (ap (settled None) (limited changed taken) ∙ left), refl)
+
+-- ---- the only column gives what is too much, and its text is cut
+
+only-shrunk : (sizes : List ℕ) → IsShrunkFromSide false (2 ∷ []) 1 (5 ∷ []) sizes → sizes ≡ 4 ∷ []
+only-shrunk sizes shrunk =
+    order_one (from_side false 1) (2 ∷ []) (5 ∷ []) (shrunk_sum (2 ∷ []) (5 ∷ []) 1) sizes (4 ∷ []) shrunk (record { number = 1; column = 0; formed = refl; sums = refl })
+
+abbrev seven : TableSizes
+seven = sizes_with (5 ∷ []) (1 ∷ []) 7
+
+abbrev shrinks-by : (ℕ → List ℕ → Option (List ℕ)) → List ℕ → ℕ → State → Outcome → Type 0
+shrinks-by change = Shrunk (shrinks_so (IsShrunkByChoice FromLeft)) tt change
+
+abbrev narrows-by : (ℕ → List ℕ → Option (List ℕ)) → ℕ → State → TableSizes → Outcome → Type 0
+narrows-by change n s it = Where (nat_lt n it.whole) (shrinks-by change (column_widths (column_count s.rows) it.widths) (it.whole - n)) (keeping it s)
+
+abbrev cut-in-four : (ℕ → List ℕ → Option (List ℕ)) → List ℕ → State
+cut-in-four change text = narrowed_state change (2 ∷ []) (4 ∷ []) (keeping seven (of_one text))
+
+module _ (change : ℕ → List ℕ → Option (List ℕ)) (text : List ℕ) (takes : table_sizes (of_one text).look 1 (of_one text).rows (of_one text).sizes ≡ Ok seven)
+    (leaves : all_sized (empty_widths (of_one text).look 1 1) ≡ Ok (2 ∷ [])) where
+  narrowed : (n : ℕ) (changed : Outcome) → NarrowsTable (shrinks_so (IsShrunkByChoice FromLeft)) tt change (measured_so (width_of (Exact n))) (of_one text) changed → narrows-by change n (of_one text) seven changed
+  narrowed n changed (size, measured, sized) =
+      worked-out (λ it. narrows-by change n (of_one text) it) (table_sizes (of_one text).look 1 (of_one text).rows (of_one text).sizes) seven changed takes
+      (exact (λ m. Narrows (shrinks_so (IsShrunkByChoice FromLeft)) tt change m (of_one text)) size changed measured sized)
+
+  cut-to-six : (changed : Outcome) → narrows-by change 6 (of_one text) seven changed → Ok (cut-in-four change text) ≡ changed
+  cut-to-six changed shrunk =
+      let (left, (after, gave), same) =
+      worked-out (λ (least : List ℕ) outcome. (left : List ℕ) × ((after : Unit {0}) × shrinks_so (IsShrunkByChoice FromLeft) tt least 1 (5 ∷ []) after left) × (Ok (narrowed_state change least left (keeping seven (of_one text))) ≡ outcome))
+      (all_sized (empty_widths (of_one text).look 1 1)) (2 ∷ []) changed leaves shrunk in
+      subst (λ (widths : List ℕ). Ok (narrowed_state change (2 ∷ []) widths (keeping seven (of_one text))) ≡ changed) (only-shrunk left gave) same
+
+  cut-outcome : (outcome : Outcome) → Settles None (NarrowsTable (shrinks_so (IsShrunkByChoice FromLeft)) tt change (measured_so (width_of (Exact 6)))) (of_one text) outcome
+      → outcome ≡ settled None (Ok (cut-in-four change text))
+  cut-outcome outcome (changed, taken, left) = sym (ap (settled None) (cut-to-six changed (narrowed 6 changed taken)) ∙ left)
+
+abbrev cut-by : SuffixLimit → Bool → Bool → List ℕ → ℕ → List ℕ → Option (List ℕ)
+cut-by limit multiline try_color suffix = truncating (cutting_by suffix limit multiline try_color)
+
+abbrev CutBySix : (List ℕ → ℕ → List ℕ → Option (List ℕ)) → State → Outcome → List ℕ → Type 0
+CutBySix change s outcome suffix = Settles None (NarrowsTable (shrinks_so (IsShrunkByChoice FromLeft)) tt (change suffix) (measured_so (width_of (Exact 6)))) s outcome
+
+red-takes : table_sizes (of_one (codes "\u{1b}[31mabc\u{1b}[0m")).look 1 (of_one (codes "\u{1b}[31mabc\u{1b}[0m")).rows (of_one (codes "\u{1b}[31mabc\u{1b}[0m")).sizes ≡ Ok seven
+unfolding natural_widths natural_heights track_sizes cut_at wrapped_text text_width text_height text_lines str_width char_width alone step past_emoji pieces first_pieces leading_piece at_escape sequence_front opened control_from string_from escape_from applied after_parameters plain_attributes start_bytes start_sequences end_bytes end_sequences digits chars encode
+red-takes = refl
+
+plain-takes : table_sizes (of_one (codes "abc")).look 1 (of_one (codes "abc")).rows (of_one (codes "abc")).sizes ≡ Ok seven
+unfolding natural_widths natural_heights track_sizes cut_at wrapped_text text_width text_height text_lines str_width char_width alone step past_emoji pieces first_pieces leading_piece at_escape sequence_front opened control_from string_from escape_from applied after_parameters plain_attributes start_bytes start_sequences end_bytes end_sequences digits chars encode
+plain-takes = refl
+
+pub returns-clause-in_its_style : goal.returns-clause-in_its_style
+unfolding natural_widths natural_heights track_sizes cut_at wrapped_text text_width text_height text_lines str_width char_width alone step past_emoji pieces first_pieces leading_piece at_escape sequence_front opened control_from string_from escape_from applied after_parameters plain_attributes start_bytes start_sequences end_bytes end_sequences digits chars encode
+returns-clause-in_its_style c = λ suffix is outcome taken. (
+  cut-in-four (cut-by Cut false true (codes ".")) (codes "\u{1b}[31mabc\u{1b}[0m"),
+  cut-outcome (cut-by Cut false true (codes ".")) (codes "\u{1b}[31mabc\u{1b}[0m") red-takes refl outcome
+      (subst (CutBySix (cut-by Cut false true) (of_one (codes "\u{1b}[31mabc\u{1b}[0m")) outcome) is taken),
+  refl,
+)
+
+pub returns-clause-replaced : goal.returns-clause-replaced
+unfolding natural_widths natural_heights track_sizes cut_at wrapped_text text_width text_height text_lines str_width char_width alone step past_emoji pieces first_pieces leading_piece at_escape sequence_front opened control_from string_from escape_from applied after_parameters plain_attributes start_bytes start_sequences end_bytes end_sequences digits chars encode
+returns-clause-replaced c = λ suffix is outcome taken. (
+  cut-in-four (cut-by (Replace 0x23) true false (codes "..")) (codes "abc"),
+  cut-outcome (cut-by (Replace 0x23) true false (codes "..")) (codes "abc") plain-takes refl outcome
+      (subst (CutBySix (cut-by (Replace 0x23) true false) (of_one (codes "abc")) outcome) is taken),
+  refl,
+)

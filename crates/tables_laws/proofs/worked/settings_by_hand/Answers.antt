@@ -72,6 +72,10 @@ pub returns-clause-justified : goal.returns-clause-justified
 unfolding natural_widths natural_heights track_sizes cut_at wrapped_text text_width text_height text_lines str_width char_width alone step past_emoji pieces first_pieces leading_piece at_escape sequence_front opened control_from string_from escape_from applied after_parameters plain_attributes start_bytes start_sequences end_bytes end_sequences digits chars encode
 returns-clause-justified c = one-outcome (looking (with_justification EveryCell 0x2e)) (below (codes "a") (codes "bc")) (looked (with_justification EveryCell 0x2e) (below (codes "a") (codes "bc"))) (codes "+----+\n| a. |\n+----+\n| bc |\n+----+") refl refl
 
+pub returns-clause-other_fill : goal.returns-clause-other_fill
+unfolding natural_widths natural_heights track_sizes cut_at wrapped_text text_width text_height text_lines str_width char_width alone step past_emoji pieces first_pieces leading_piece at_escape sequence_front opened control_from string_from escape_from applied after_parameters plain_attributes start_bytes start_sequences end_bytes end_sequences digits chars encode
+returns-clause-other_fill c = one-outcome (looking (with_justification (OneColumn 1) 0x2e)) (below (codes "a") (codes "bc")) (looked (with_justification (OneColumn 1) 0x2e) (below (codes "a") (codes "bc"))) (codes "+----+\n| a  |\n+----+\n| bc |\n+----+") refl refl
+
 pub returns-clause-two_columns : goal.returns-clause-two_columns
 unfolding natural_widths natural_heights track_sizes cut_at wrapped_text text_width text_height text_lines str_width char_width alone step past_emoji pieces first_pieces leading_piece at_escape sequence_front opened control_from string_from escape_from applied after_parameters plain_attributes start_bytes start_sequences end_bytes end_sequences digits chars encode
 returns-clause-two_columns c = one-outcome (positive 2 (looking (with_column_span (at 0 0) 2))) square (looked (with_column_span (at 0 0) 2) square) (codes "+---+---+\n| a     |\n+---+---+\n| c | d |\n+---+---+") refl refl
