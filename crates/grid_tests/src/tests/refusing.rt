@@ -5,7 +5,7 @@ use super::{Table, expect_same, nine_rows, records_of};
 use fakes::borders::ASCII;
 use grid_config::{CompactConfig, Fault, Indent, Sides, SpannedConfig};
 use grid_records::{Dimension, IntoRecords, IterRecords, TruncateContent};
-use papergrid::{CompactGrid, IterGrid, NoColors, PeekableGrid, fits};
+use papergrid::{CompactGrid, IterGrid, LineChoice, LineKind, NoColors, PeekableGrid, fits};
 use std::alloc::Global;
 use std::process::Abort;
 use tabled_output::Counted;
@@ -38,6 +38,19 @@ impl Dimension for Single {
 
     fn get_height(&self, _row: usize) -> usize {
         1
+    }
+}
+
+// Each line is chosen.
+struct EachLine;
+
+impl LineChoice for EachLine {
+    ghost use Rattle.std.specs.Prelude.{true};
+
+    ghost chooses = { λ _ _. true };
+
+    fn is_chosen(&self, _kind: LineKind) -> bool {
+        true
     }
 }
 
@@ -98,6 +111,37 @@ fn append_long(rt: &impl Abort, alloc: Global, cfg: &SpannedConfig) -> Result<()
     let mut text = String::from_str(alloc, BEFORE)?;
     let outcome = grid.build(alloc, &mut text);
     expect_all_or_nothing(rt, outcome, &text, BEFORE, nine_rows::BOXED)
+}
+
+// Each line, by its number and as it is chosen, with a line feed after it.
+fn write_each_line(rt: &impl Abort, alloc: Global, cfg: &SpannedConfig) -> Result<(), Fault> {
+    let records = records_of(rt, alloc, &TABLE)?;
+    let sizes = TABLE;
+    fits(&records, cfg, &sizes)?;
+    let grid = PeekableGrid::new(&records, cfg, &sizes, NoColors);
+    let mut text = String::new(alloc);
+    for y in 0..grid.lines() {
+        grid.build_line(alloc, y, &mut text)?;
+        text.push('\n')?;
+    }
+    expect_same(
+        rt,
+        text.strip_suffix('\n'),
+        Some(LINES),
+        "lines by their numbers",
+    );
+    let mut writer = Counted::new(Vec::new(alloc));
+    if grid.write_lines(alloc, &mut writer, &EachLine)?.is_err() {
+        return Err(Fault::Memory);
+    }
+    let taken: Vec<u8> = writer.into_inner();
+    expect_same(
+        rt,
+        taken.as_slice(),
+        text.as_bytes(),
+        "lines that are chosen",
+    );
+    Ok(())
 }
 
 // A table without lines requests memory for none, as a text and written.
@@ -175,6 +219,14 @@ fn looked_up_grids_append_all_or_nothing(rt: HostRuntime) -> Result<(), Fault> {
 fn long_tables_are_appended_all_or_not(rt: HostRuntime) -> Result<(), Fault> {
     let cfg = spanned(&rt, rt.alloc());
     let outcome = append_long(&rt, rt.alloc(), &cfg);
+    drop(cfg);
+    outcome
+}
+
+#[test]
+fn each_line_is_written_or_memory_is_refused(rt: HostRuntime) -> Result<(), Fault> {
+    let cfg = spanned(&rt, rt.alloc());
+    let outcome = write_each_line(&rt, rt.alloc(), &cfg);
     drop(cfg);
     outcome
 }
