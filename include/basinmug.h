@@ -165,7 +165,7 @@ struct basinmug_print_options {
 struct basinmug_print_answer {
     size_t size;   /* BASINMUG_OK: how many bytes the whole output has */
     size_t wider;  /* BASINMUG_OK: 1 if the table is wider than requested */
-    size_t line;   /* BASINMUG_NOT_UTF8, BASINMUG_ESCAPE, BASINMUG_QUOTE: the line of the error, from 1 */
+    size_t line;   /* BASINMUG_NOT_UTF8, BASINMUG_ESCAPE, BASINMUG_QUOTE: the line of the error, from 1; a line feed ends a line */
     size_t field;  /* BASINMUG_NOT_UTF8, BASINMUG_ESCAPE: its field in the record, from 1 */
     size_t row;    /* BASINMUG_LINE_TOO_WIDE: the row of the cell, from 0; of basinmug_print_cells also
                       BASINMUG_NOT_UTF8 and BASINMUG_ESCAPE, which then have no line and no field */
