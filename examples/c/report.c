@@ -1,6 +1,6 @@
 /*
  * Prints records as a table of at most 60 columns, of which the first is bold and the hours are red. Where the library is
- * installed:
+ * installed, and found after `ldconfig` or by LD_LIBRARY_PATH:
  *
  *     cc -o report report.c -lbasinmug && ./report
  */

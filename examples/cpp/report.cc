@@ -1,5 +1,5 @@
 // Prints records as a table of at most 60 columns, of which the first is bold and the hours are red. Where the library is
-// installed:
+// installed, and found after `ldconfig` or by LD_LIBRARY_PATH:
 //
 //     c++ -o report report.cc -lbasinmug && ./report
 #include <basinmug.h>
